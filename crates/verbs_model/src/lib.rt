@@ -1,0 +1,22 @@
+//! Verbs queues as InfiniBand means them: requests, completions, the entries of a history, and which
+//! histories are legal. No ring, no owner bit, no doorbell: plain lists and whole numbers.
+#![tactic(auto)]
+
+mod call;
+mod completion;
+mod declaration;
+mod entry;
+mod name;
+mod request;
+mod sequence;
+
+pub use call::Call;
+pub use completion::{Completion, EventRecord, Kind, Queue};
+pub use declaration::{
+    Connect, CqLine, Declared, EqLine, FIRST_PD, FIRST_QP, Lines, NotDeclared, Object, PdLine,
+    QpLine,
+};
+pub use entry::{ADAPTER, CONTROL, CheckFault, Entry, Illegal, NoMemory, RuleName, What};
+pub use name::{Name, NameFault};
+pub use request::{Body, Item, Op, Receive, Request, Sge};
+pub use sequence::Sequence;
