@@ -1,0 +1,5 @@
+pub mod Requests
+pub mod Heads
+pub mod Spelling
+pub mod Limits
+pub mod Grammar

@@ -1,0 +1,39 @@
+-- Counts of a scenario that have a bound.
+use Rattle.std.specs.Prelude.{ℕ, ◌+◌, ◌==◌, if◌then◌else◌, List, [], ◌∷◌, length, Option, None, Some, replicate}
+use Rattle.std.specs.List.{flat_map, sum_by}
+use Rattle.verbs_model.specs.declared.call.Call.{Call}
+use Rattle.verbs_model.specs.declared.call.Call.TheVariants.{Post, Poll, Drain}
+use Rattle.verbs_model.specs.declared.declaration.QpLine.{QpLine}
+use Rattle.scenario_text.specs.declared.scenario.Plan.{Plan}
+use Rattle.scenario_text.specs.declared.scenario.Plan.TheVariants.{Idle, Schedule}
+use Rattle.scenario_text.specs.declared.scenario.PlanItem.{PlanItem}
+
+abbrev pub count_of : Option ℕ → ℕ
+count_of None = 1
+count_of (Some n) = n
+
+abbrev pub times_of : PlanItem → ℕ
+times_of i = count_of i.times
+
+-- the actor of each turn
+abbrev pub turns_of : Plan → List ℕ
+turns_of Idle = []
+turns_of (Schedule items) = flat_map (λ (i : PlanItem). replicate (times_of i) i.actor) items
+
+abbrev pub turn_count : Plan → ℕ
+turn_count Idle = 0
+turn_count (Schedule items) = sum_by times_of items
+
+-- the requests of a call on this queue pair
+abbrev pub posted_by : ℕ → Call → ℕ
+posted_by q (Post qp requests) = if qp == q then length requests else 0
+posted_by q (Poll cq most) = 0
+posted_by q (Drain cq count) = 0
+
+abbrev pub posted_on : ℕ → List (List Call) → ℕ
+posted_on q programs = sum_by (λ (calls : List Call). sum_by (posted_by q) calls) programs
+
+-- the requests on those of these queue pairs, numbered from q on, whose send queue completes into c
+abbrev pub completing_into : ℕ → ℕ → List QpLine → List (List Call) → ℕ
+completing_into c q [] programs = 0
+completing_into c q (l ∷ ls) programs = (if l.send_cq == c then posted_on q programs else 0) + completing_into c (q + 1) ls programs

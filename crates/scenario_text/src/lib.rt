@@ -1,0 +1,6 @@
+//! Scenario texts: what a user writes, and the value that it spells.
+#![tactic(auto)]
+
+mod scenario;
+
+pub use scenario::{Plan, PlanItem, ScenarioParts};
