@@ -1,2 +1,12 @@
 pub mod Names
 pub mod Lines
+pub mod Family
+pub mod State
+pub mod Same
+pub mod Rules
+pub mod Rows
+pub mod Step
+pub mod Legal
+pub mod Answered
+pub mod Turned
+pub mod Start

@@ -4,7 +4,7 @@ use crate::request::Request;
 use crate::sequence::Sequence;
 
 /// A call of a thread.
-#[derive(Debug, Drop)]
+#[derive(Clone, Debug, Drop)]
 pub enum Call {
     /// Posts these requests on the send queue of a queue pair (`ibv_post_send`).
     Post {

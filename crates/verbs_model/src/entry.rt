@@ -12,14 +12,14 @@ pub const ADAPTER: u8 = 0;
 pub const CONTROL: u8 = 31;
 
 /// One entry of a history: who made it, and what it says.
-#[derive(Debug, Drop)]
+#[derive(Clone, Debug, Drop)]
 pub struct Entry {
     pub actor: u8,
     pub what: What,
 }
 
 /// What an entry says. The first five are made by threads, the others by the adapter.
-#[derive(Debug, Drop)]
+#[derive(Clone, Debug, Drop)]
 pub enum What {
     /// The queue took these items.
     Post {

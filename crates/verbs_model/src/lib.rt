@@ -9,6 +9,7 @@ mod entry;
 mod name;
 mod request;
 mod sequence;
+mod state;
 
 pub use call::Call;
 pub use completion::{Completion, EventRecord, Kind, Queue};
@@ -20,3 +21,4 @@ pub use entry::{ADAPTER, CONTROL, CheckFault, Entry, Illegal, NoMemory, RuleName
 pub use name::{Name, NameFault};
 pub use request::{Body, Item, Op, Receive, Request, Sge};
 pub use sequence::Sequence;
+pub use state::{Act, QpState, QueuePair, Unpolled};

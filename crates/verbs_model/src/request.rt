@@ -14,7 +14,7 @@ pub struct Sge {
 }
 
 /// The data of a request.
-#[derive(Debug, Drop)]
+#[derive(Clone, Debug, Drop)]
 pub enum Body {
     /// Pieces of registered memory, in order.
     Sges(Sequence<Sge>),
@@ -59,7 +59,7 @@ pub enum Op {
 }
 
 /// A work request of a send queue.
-#[derive(Debug, Drop)]
+#[derive(Clone, Debug, Drop)]
 pub struct Request {
     /// The program's own number, which the completion gives back.
     pub id: u64,
@@ -72,7 +72,7 @@ pub struct Request {
 }
 
 /// A work request of a receive queue.
-#[derive(Debug, Drop)]
+#[derive(Clone, Debug, Drop)]
 pub struct Receive {
     /// The program's own number, which the completion gives back.
     pub id: u64,
@@ -80,7 +80,7 @@ pub struct Receive {
 }
 
 /// What stands in a work queue.
-#[derive(Debug, Drop)]
+#[derive(Clone, Debug, Drop)]
 pub enum Item {
     Request(Request),
     Receive(Receive),

@@ -5,7 +5,7 @@ use std::alloc::{AllocError, Global};
 use std::marker::Model;
 
 /// A growable list, of which a contract sees the items alone, and not the room or the place in memory.
-#[derive(Debug, Drop)]
+#[derive(Clone, Debug, Drop)]
 pub struct Sequence<T> {
     items: Vec<T>,
 }
