@@ -1,0 +1,4 @@
+pub mod Sameness
+pub mod Failing
+pub mod Facts
+pub mod Histories
