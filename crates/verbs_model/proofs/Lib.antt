@@ -2,3 +2,4 @@ pub mod Sameness
 pub mod Failing
 pub mod Facts
 pub mod Histories
+pub mod Derived

@@ -1,5 +1,5 @@
 -- The tests of sameness hold exactly where the values are equal.
-use Rattle.std.proofs.Common.{if◌then◌else◌, ◌≡◌, ℕ, zero, suc, refl, sym, ap, ◌∙◌, Bool, true, false, ◌==◌, List, [], ◌∷◌, map, take, length, Option, Some, None, eqb-true, eq-eqb}
+use Rattle.std.proofs.Common.{◌<◌, arith, if◌then◌else◌, ◌≡◌, ℕ, zero, suc, refl, sym, ap, ◌∙◌, Bool, true, false, ◌==◌, List, [], ◌∷◌, map, take, length, Option, Some, None, eqb-true, eq-eqb}
 use Rattle.std.proofs.lemmas.Bool.{and_parts, and_from, false≢true}
 use Rattle.verbs_model.specs.declared.completion.Queue.{Queue}
 use Rattle.verbs_model.specs.declared.completion.Queue.TheVariants.{Send, Recv, Shared}
@@ -113,3 +113,8 @@ pub front_is_front : (us : List Unpolled) → (n : ℕ) → is_front (map (λ (u
 front_is_front us zero = refl
 front_is_front [] (suc n) = refl
 front_is_front (u ∷ us) (suc n) = and_from _ _ (same_completion_refl u.completion) (front_is_front us n)
+
+-- nothing is left, and more is asked for
+pub is_front-nil : (xs : List Completion) → 0 < length xs → is_front xs [] ≡ false
+is_front-nil [] h = absurd (omega arith)
+is_front-nil (x ∷ xs) h = refl

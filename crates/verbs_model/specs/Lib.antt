@@ -10,3 +10,6 @@ pub mod Legal
 pub mod Answered
 pub mod Turned
 pub mod Start
+pub mod Held
+pub mod Inside
+pub mod Tables

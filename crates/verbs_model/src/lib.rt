@@ -8,8 +8,10 @@ mod declaration;
 mod entry;
 mod name;
 mod request;
+mod rules;
 mod sequence;
 mod state;
+mod work_queue;
 
 pub use call::Call;
 pub use completion::{Completion, EventRecord, Kind, Queue};

@@ -1,0 +1,8 @@
+-- A work queue as it is kept.
+use Rattle.std.specs.Prelude.{ℕ}
+use Rattle.verbs_model.specs.State.{WorkQueue}
+
+pub record Held : Type 0 where
+  pub queue : WorkQueue
+  -- how many more polled completions it can keep without taking memory
+  pub spare : ℕ
