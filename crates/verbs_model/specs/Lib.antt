@@ -12,4 +12,5 @@ pub mod Turned
 pub mod Start
 pub mod Held
 pub mod Inside
+pub mod InsideCompletions
 pub mod Tables

@@ -4,6 +4,7 @@
 
 mod call;
 mod completion;
+mod completion_queue;
 mod declaration;
 mod entry;
 mod name;
