@@ -14,3 +14,4 @@ pub mod Held
 pub mod Inside
 pub mod InsideCompletions
 pub mod Tables
+pub mod InsideAbstract

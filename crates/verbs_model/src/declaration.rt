@@ -219,7 +219,8 @@ fn are_connect_lines(lines: &Lines) -> bool
         .all(|line| is_connect_line(lines, line))
 }
 
-fn is_among(first: u32, count: usize, number: u32) -> bool
+/// Whether a number is one of so many, counted from the first.
+pub(crate) fn is_among(first: u32, count: usize, number: u32) -> bool
     ensures { result ≡ tests.is_among first count number }
 {
     first <= number && ((number - first) as usize) < count

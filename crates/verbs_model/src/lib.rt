@@ -2,6 +2,7 @@
 //! histories are legal. No ring, no owner bit, no doorbell: plain lists and whole numbers.
 #![tactic(auto)]
 
+mod abstract_state;
 mod call;
 mod completion;
 mod completion_queue;
@@ -12,8 +13,10 @@ mod request;
 mod rules;
 mod sequence;
 mod state;
+mod work;
 mod work_queue;
 
+pub use abstract_state::Abstract;
 pub use call::Call;
 pub use completion::{Completion, EventRecord, Kind, Queue};
 pub use declaration::{

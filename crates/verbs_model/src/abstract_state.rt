@@ -1,0 +1,108 @@
+//! The state of verbs queues, as lists of objects.
+ghost use Rattle.std.specs.Prelude.{◌≡◌, ◌+◌, ◌-◌, ◌*◌, ◌<◌, ◌≤◌, length, IsTrue, OnOk, OnErr};
+ghost use Rattle.std.specs.Option.{option_to_list};
+ghost use Rattle.verbs_model.specs.Rules.{queue_lives};
+ghost use Rattle.verbs_model.specs.Tables.{state_of, place_of};
+
+use crate::completion::Queue;
+use crate::completion_queue::CompletionQueue;
+use crate::declaration::{FIRST_QP, is_among};
+use crate::state::{Act, QueuePair};
+use crate::work_queue::WorkQueue;
+use std::marker::Model;
+
+mod steps;
+
+/// The state of verbs queues.
+#[derive(Debug, Drop)]
+pub struct Abstract {
+    /// The send queue of the queue pair at place i stands at 2i, its receive queue at 2i + 1.
+    queues: Vec<WorkQueue>,
+    pairs: Vec<QueuePair>,
+    completions: Vec<CompletionQueue>,
+    /// What the adapter owes for the work entry that it is in.
+    owed: Option<Act>,
+}
+
+impl Model for Abstract {
+    ghost use Rattle.verbs_model.specs.Tables.{Tables};
+
+    ghost Value = { Tables };
+
+    ghost use Rattle.verbs_model.specs.InsideAbstract.{tables, HasBothQueues};
+
+    ghost view = { tables };
+
+    ghost invariant = { HasBothQueues };
+}
+
+impl Abstract {
+    /// Whether the queue pair lives.
+    pub(crate) fn has_pair(&self, qp: u32) -> bool
+        ensures { result ≡ (state_of self.now).pair_lives qp }
+    {
+        is_among(FIRST_QP, self.pairs.len(), qp)
+    }
+
+    /// Whether the queue lives.
+    pub(crate) fn has_queue(&self, queue: Queue) -> bool
+        ensures { result ≡ queue_lives (state_of self.now) queue }
+    {
+        match queue {
+            Queue::Send(qp) | Queue::Recv(qp) => self.has_pair(qp),
+            Queue::Shared(_) => false,
+        }
+    }
+
+    /// Whether the completion queue lives.
+    pub(crate) fn has_completions(&self, cq: u32) -> bool
+        ensures { result ≡ (state_of self.now).completions_live cq }
+    {
+        is_among(0, self.completions.len(), cq)
+    }
+
+    /// A queue pair that lives.
+    pub(crate) fn pair(&self, qp: u32) -> QueuePair
+        requires { IsTrue ((state_of self.now).pair_lives qp) }
+        ensures { result ≡ (state_of self.now).pairs qp }
+    {
+        self.pairs[(qp - FIRST_QP) as usize]
+    }
+
+    /// The place of a queue that lives.
+    fn place(&self, queue: Queue) -> usize
+        requires { IsTrue (queue_lives (state_of self.now) queue) }
+        ensures place { result ≡ place_of queue }
+        ensures inside { result < length self.now.queues }
+    {
+        let _queues = &self.queues;
+        match queue {
+            Queue::Send(qp) => 2 * (qp - FIRST_QP) as usize,
+            Queue::Recv(qp) => 2 * (qp - FIRST_QP) as usize + 1,
+            Queue::Shared(_) => unreachable!(),
+        }
+    }
+
+    /// A queue that lives.
+    pub(crate) fn queue(&self, queue: Queue) -> &WorkQueue
+        requires { IsTrue (queue_lives (state_of self.now) queue) }
+        ensures { result.now.queue ≡ (state_of self.now).queues queue }
+    {
+        &self.queues[self.place(queue)]
+    }
+
+    /// A completion queue that lives.
+    pub(crate) fn completions(&self, cq: u32) -> &CompletionQueue
+        requires { IsTrue ((state_of self.now).completions_live cq) }
+        ensures { result.now ≡ (state_of self.now).completions cq }
+    {
+        &self.completions[cq as usize]
+    }
+
+    /// What the adapter owes next.
+    pub(crate) fn owed(&self) -> Option<Act>
+        ensures { option_to_list result ≡ (state_of self.now).owed }
+    {
+        self.owed
+    }
+}
