@@ -1,7 +1,9 @@
 pub mod Sameness
 pub mod Failing
 pub mod Facts
+pub mod EndLemmas
 pub mod Families
 pub mod Places
+pub mod Polls
 pub mod Histories
 pub mod Derived

@@ -15,3 +15,4 @@ pub mod Inside
 pub mod InsideCompletions
 pub mod Tables
 pub mod InsideAbstract
+pub mod Ends

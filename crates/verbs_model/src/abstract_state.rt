@@ -2,15 +2,18 @@
 ghost use Rattle.std.specs.Prelude.{◌≡◌, ◌+◌, ◌-◌, ◌*◌, ◌<◌, ◌≤◌, length, IsTrue, OnOk, OnErr};
 ghost use Rattle.std.specs.Option.{option_to_list};
 ghost use Rattle.verbs_model.specs.Rules.{queue_lives};
-ghost use Rattle.verbs_model.specs.Tables.{state_of, place_of};
+ghost use Rattle.verbs_model.specs.Tables as tables;
+ghost use Rattle.verbs_model.specs.Tables.{state_of};
 
 use crate::completion::Queue;
 use crate::completion_queue::CompletionQueue;
 use crate::declaration::{FIRST_QP, is_among};
 use crate::state::{Act, QueuePair};
 use crate::work_queue::WorkQueue;
+use ends::place_of;
 use std::marker::Model;
 
+mod ends;
 mod steps;
 
 /// The state of verbs queues.
@@ -72,15 +75,12 @@ impl Abstract {
     /// The place of a queue that lives.
     fn place(&self, queue: Queue) -> usize
         requires { IsTrue (queue_lives (state_of self.now) queue) }
-        ensures place { result ≡ place_of queue }
+        ensures place { result ≡ tables.place_of queue }
         ensures inside { result < length self.now.queues }
     {
-        let _queues = &self.queues;
-        match queue {
-            Queue::Send(qp) => 2 * (qp - FIRST_QP) as usize,
-            Queue::Recv(qp) => 2 * (qp - FIRST_QP) as usize + 1,
-            Queue::Shared(_) => unreachable!(),
-        }
+        let place = place_of(queue);
+        prove!(place < self.queues.len());
+        place
     }
 
     /// A queue that lives.

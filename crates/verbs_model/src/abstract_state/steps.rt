@@ -1,11 +1,14 @@
 //! What an entry makes of the state.
 ghost use Rattle.std.specs.Prelude.{◌≡◌, ◌-◌, length, IsTrue, OnOk, OnErr};
 ghost use Rattle.verbs_model.specs.Rows as rows;
-ghost use Rattle.verbs_model.specs.Rules.{queue_lives};
+ghost use Rattle.verbs_model.specs.Rules.{queue_lives, names_living};
+ghost use Rattle.verbs_model.specs.Same.{is_front};
+ghost use Rattle.std.specs.List.{list_all};
 ghost use Rattle.verbs_model.specs.Tables.{state_of};
 
 use crate::abstract_state::Abstract;
-use crate::completion::Queue;
+use crate::abstract_state::ends::{end_each, reserve_each};
+use crate::completion::{Completion, Queue};
 use crate::request::Item;
 use crate::state::Act;
 use crate::work::act_of;
@@ -30,6 +33,22 @@ impl Abstract {
     {
         let place = self.place(queue);
         self.queues[place].retire(count);
+    }
+
+    /// A poll took these completions from the front. Where memory runs out nothing has changed.
+    pub(crate) fn poll(&mut self, cq: u32, completions: &[Completion]) -> Result<(), AllocError>
+        requires lives { IsTrue ((state_of self.old).completions_live cq) }
+        requires named { IsTrue (list_all (names_living (state_of self.old)) completions.now) }
+        requires front { IsTrue (is_front completions.now ((state_of self.old).completions cq).unpolled) }
+        ensures made { OnOk result (state_of self.new ≡ rows.poll (state_of self.old) cq completions.now) }
+        ensures unchanged { OnErr result (self.new ≡ self.old) }
+    {
+        let polled = &mut self.completions[cq as usize];
+        let taken = &polled.unpolled()[..completions.len()];
+        reserve_each(&mut self.queues, taken)?;
+        end_each(&mut self.queues, taken);
+        polled.poll(completions.len());
+        Ok(())
     }
 
     /// The consumer index is now this one.
