@@ -8,11 +8,13 @@ mod completion;
 mod completion_queue;
 mod declaration;
 mod entry;
+mod faults;
 mod name;
 mod request;
 mod rules;
 mod sequence;
 mod state;
+mod step;
 mod work;
 mod work_queue;
 

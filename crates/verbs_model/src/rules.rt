@@ -56,7 +56,7 @@ pub(crate) fn item_fits(queue: Queue, segments: u32, item: &Item) -> bool
 }
 
 /// Whether two completions say the same.
-fn is_same(a: &Completion, b: &Completion) -> bool
+pub(crate) fn is_same(a: &Completion, b: &Completion) -> bool
     ensures { result ≡ same.same_completion a.now b.now }
 {
     *a == *b
