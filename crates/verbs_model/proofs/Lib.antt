@@ -5,5 +5,6 @@ pub mod EndLemmas
 pub mod Families
 pub mod Places
 pub mod Polls
+pub mod Beginnings
 pub mod Histories
 pub mod Derived

@@ -16,3 +16,4 @@ pub mod InsideCompletions
 pub mod Tables
 pub mod InsideAbstract
 pub mod Ends
+pub mod Beginning

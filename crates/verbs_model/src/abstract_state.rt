@@ -13,8 +13,11 @@ use crate::work_queue::WorkQueue;
 use ends::place_of;
 use std::marker::Model;
 
+mod beginning;
 mod ends;
 mod steps;
+
+pub use beginning::start;
 
 /// The state of verbs queues.
 #[derive(Debug, Drop)]

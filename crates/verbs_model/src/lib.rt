@@ -18,7 +18,7 @@ mod step;
 mod work;
 mod work_queue;
 
-pub use abstract_state::Abstract;
+pub use abstract_state::{Abstract, start};
 pub use call::Call;
 pub use completion::{Completion, EventRecord, Kind, Queue};
 pub use declaration::{
