@@ -6,5 +6,6 @@ pub mod Families
 pub mod Places
 pub mod Polls
 pub mod Beginnings
+pub mod Copies
 pub mod Histories
 pub mod Derived

@@ -20,7 +20,7 @@ mod steps;
 pub use beginning::start;
 
 /// The state of verbs queues.
-#[derive(Debug, Drop)]
+#[derive(Clone, Debug, Drop)]
 pub struct Abstract {
     /// The send queue of the queue pair at place i stands at 2i, its receive queue at 2i + 1.
     queues: Vec<WorkQueue>,

@@ -12,7 +12,7 @@ use std::marker::Model;
 
 /// A completion queue: every completion that was written to it, and how many of them were polled and
 /// acknowledged.
-#[derive(Debug, Drop)]
+#[derive(Clone, Debug, Drop)]
 pub(crate) struct CompletionQueue {
     size: u64,
     /// The index of the first completion.

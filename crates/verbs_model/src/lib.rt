@@ -9,6 +9,7 @@ mod completion_queue;
 mod declaration;
 mod entry;
 mod faults;
+mod history;
 mod name;
 mod request;
 mod rules;
@@ -26,6 +27,7 @@ pub use declaration::{
     QpLine,
 };
 pub use entry::{ADAPTER, CONTROL, CheckFault, Entry, Illegal, NoMemory, RuleName, What};
+pub use history::check_history;
 pub use name::{Name, NameFault};
 pub use request::{Body, Item, Op, Receive, Request, Sge};
 pub use sequence::Sequence;

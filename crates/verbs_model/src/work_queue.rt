@@ -16,7 +16,7 @@ use std::marker::Model;
 
 /// A send or receive queue: all that was ever posted on it, and how far the adapter and the program have
 /// come.
-#[derive(Debug, Drop)]
+#[derive(Clone, Debug, Drop)]
 pub(crate) struct WorkQueue {
     /// How many requests may be outstanding.
     room: u64,
