@@ -32,3 +32,6 @@ pub use name::{Name, NameFault};
 pub use request::{Body, Item, Op, Receive, Request, Sge};
 pub use sequence::Sequence;
 pub use state::{Act, QpState, QueuePair, Unpolled};
+
+#[cfg(test)]
+mod tests;
