@@ -4,7 +4,8 @@ ghost use Rattle.owner_ring.specs.Place as words;
 
 /// Where a ring lies: the first word of its entries, the log2 of their number, and the word of the
 /// consumer index. An entry has 8 words, of which the last carries the owner bit. `event` tells an
-/// event queue, whose entries have no opcode beside that bit, from a completion queue.
+/// event queue, whose entries have no opcode beside that bit, from a completion queue. The layout
+/// is the Programmer's Reference Manual's, the place of the words on the bus this project's own.
 #[derive(Clone, Copy, Debug, PartialEq, Eq)]
 pub struct RingPlace {
     pub base: u32,
@@ -40,7 +41,9 @@ impl RingPlace {
         index / self.size() % 2
     }
 
-    /// Whether software owns the entry of an index whose last word this is.
+    /// Whether software owns the entry of an index whose last word this is, by the rule of the
+    /// Programmer's Reference Manual: the owner bit is that of the round, and a completion's opcode
+    /// is not 15, which marks an entry that was never written.
     pub(crate) fn is_owned(&self, index: u64, word: u64) -> bool
         requires { words.IsPlace self.now }
         ensures { result ≡ words.is_owned self.now index word }
