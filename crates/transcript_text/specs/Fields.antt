@@ -1,7 +1,17 @@
 -- The fields of a line after its first.
-use Rattle.std.specs.Prelude.{ℕ, List, [], ◌∷◌}
+use Rattle.std.specs.Prelude.{ℕ, List, [], ◌∷◌, ◌++◌, codes, decimal}
 use Rattle.std.specs.List.{flat_map}
+use Rattle.verbs_model.specs.declared.declaration.QpLine.{QpLine}
+use Rattle.verbs_model.specs.declared.declaration.Lines.{Lines}
+use Rattle.scenario_text.specs.Heads.{pd_name, cq_name}
 
 -- each field after a space
 abbrev pub spaced : List (List ℕ) → List ℕ
 spaced fields = flat_map (λ field. 32 ∷ field) fields
+
+-- the two halves of the line of a queue pair
+abbrev pub qp_names : Lines → QpLine → List (List ℕ)
+qp_names d l = l.name ∷ pd_name d l.pd ∷ cq_name d l.send_cq ∷ cq_name d l.recv_cq ∷ []
+
+abbrev pub qp_sizes : QpLine → List (List ℕ)
+qp_sizes l = decimal l.send_log ∷ (codes "rq:" ++ decimal l.recv_log) ∷ decimal l.segments ∷ decimal l.start ∷ []

@@ -1,7 +1,14 @@
 //! Transcripts: the text of a history, and the writers that it is made with.
 #![tactic(auto)]
 
+mod completion;
+mod head;
+mod history;
+mod names;
 mod request;
+mod row;
 mod writer;
 
+pub use head::put_head;
+pub use history::{print_history, put_history};
 pub use writer::TextWriter;
