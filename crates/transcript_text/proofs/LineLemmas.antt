@@ -1,6 +1,6 @@
 -- A line is its first field, and then each further one after a space.
-use Rattle.std.proofs.Common.{◌≡◌, ℕ, List, [], ◌∷◌, ◌++◌, refl, sym, ap, ◌∙◌, append-nil, append_assoc, arith}
-use Rattle.std.specs.List.{flat_map, join_with_byte}
+use Rattle.std.proofs.Common.{◌≡◌, ℕ, List, [], ◌∷◌, ◌++◌, sym, ap, append-nil, append_assoc, arith}
+use Rattle.std.specs.List.{join_with_byte}
 use Rattle.scenario_text.specs.Requests.{line}
 use Rattle.transcript_text.specs.Fields.{spaced}
 

@@ -1,5 +1,5 @@
 -- The objects of declared lines are those of the lines.
-use Rattle.std.proofs.Common.{◌≡◌, ℕ, ◌+◌, ◌≤◌, ◌<◌, Bool, ◌&&◌, eqb, List, [], ◌∷◌, length, All, IsTrue, arith}
+use Rattle.std.proofs.Common.{◌≡◌, ℕ, ◌+◌, ◌≤◌, Bool, ◌&&◌, eqb, List, [], ◌∷◌, length, All, IsTrue, arith}
 use Rattle.std.proofs.lemmas.Bool.{and_parts, eqb-true}
 use Rattle.std.proofs.lemmas.List.Elements.{All-nil, All-cons}
 use Rattle.verbs_model.specs.Lines.{is_declared, are_in_turn, is_among}

@@ -1,5 +1,5 @@
 -- Which numbers in a history are those of declared things.
-use Rattle.std.specs.Prelude.{ℕ, ◌≡◌, ◌⊎◌, IsTrue, List, length, All}
+use Rattle.std.specs.Prelude.{ℕ, ◌≡◌, ◌⊎◌, IsTrue, length, All}
 use Rattle.verbs_model.specs.Lines.{is_among}
 use Rattle.verbs_model.specs.declared.completion.Queue.{Queue}
 use Rattle.verbs_model.specs.declared.completion.Queue.TheVariants.{Send, Recv, Shared}

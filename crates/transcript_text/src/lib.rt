@@ -12,3 +12,6 @@ mod writer;
 pub use head::put_head;
 pub use history::{print_history, put_history};
 pub use writer::TextWriter;
+
+#[cfg(test)]
+mod tests;

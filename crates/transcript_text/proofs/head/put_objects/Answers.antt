@@ -1,5 +1,5 @@
 -- Each object of declared lines is one of them.
-use Rattle.std.proofs.Common.{◌≡◌, All, sym, subst}
+use Rattle.std.proofs.Common.{All, sym, subst}
 use Rattle.transcript_text.specs.Numbers.{IsObject}
 use Rattle.transcript_text.proofs.ObjectLemmas.{objects_are_declared}
 use Rattle.transcript_text.proofs.head.put_objects.Goals as goal

@@ -1,5 +1,5 @@
 -- The title, the head, the entries and the last line make the text.
-use Rattle.std.proofs.Common.{◌∷◌, [], codes, length, ◌++◌}
+use Rattle.std.proofs.Common.{◌∷◌, [], codes, length}
 use Rattle.std.specs.List.{flat_map}
 use Rattle.std.proofs.lemmas.Result.{on_ok_weaker}
 use Rattle.scenario_text.specs.Requests.{line}
