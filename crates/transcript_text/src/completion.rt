@@ -1,5 +1,5 @@
 //! The texts of queues and completions.
-ghost use Rattle.std.specs.Prelude.{◌≡◌, ◌∷◌, ◌++◌, OnOk};
+ghost use Rattle.std.specs.Prelude.{◌≡◌, ◌++◌, codes, OnOk};
 ghost use Rattle.transcript_text.specs.Numbers.{IsQueue, IsCompletion};
 ghost use Rattle.transcript_text.specs.History as texts;
 
@@ -10,7 +10,7 @@ use verbs_model::{Completion, Kind, Lines, NoMemory, Queue};
 /// A space and the name of a queue.
 pub(crate) fn put_queue(out: &mut TextWriter, lines: &Lines, queue: Queue) -> Result<(), NoMemory>
     requires { IsQueue lines.now queue }
-    ensures { OnOk result (out.new ≡ out.old ++ 32 ∷ texts.queue_name lines.now queue) }
+    ensures { OnOk result (out.new ≡ out.old ++ (codes " " ++ texts.queue_name lines.now queue)) }
 {
     match queue {
         Queue::Send(qp) => {
@@ -32,7 +32,7 @@ pub(crate) fn put_completion(
     completion: &Completion,
 ) -> Result<(), NoMemory>
     requires { IsCompletion lines.now completion.now }
-    ensures { OnOk result (out.new ≡ out.old ++ 32 ∷ texts.completion_text lines.now completion.now) }
+    ensures { OnOk result (out.new ≡ out.old ++ (codes " " ++ texts.completion_text lines.now completion.now)) }
 {
     put_queue(out, lines, completion.queue)?;
     out.put_number_part(completion.id)?;
@@ -61,7 +61,7 @@ fn kind_name(kind: Kind) -> &'static [u8]
 }
 
 fn put_immediate(out: &mut TextWriter, imm: Option<u32>) -> Result<(), NoMemory>
-    ensures { OnOk result (out.new ≡ out.old ++ 58 ∷ texts.immediate_text imm) }
+    ensures { OnOk result (out.new ≡ out.old ++ (codes ":" ++ texts.immediate_text imm)) }
 {
     match imm {
         Some(imm) => out.put_number_part(u64::from(imm)),

@@ -1,5 +1,5 @@
 //! The texts of requests and receives.
-ghost use Rattle.std.specs.Prelude.{◌≡◌, ◌∷◌, ◌++◌, decimal, map, OnOk};
+ghost use Rattle.std.specs.Prelude.{◌≡◌, [], ◌∷◌, ◌++◌, codes, decimal, map, OnOk};
 ghost use Rattle.std.specs.List.{flat_map};
 ghost use Rattle.scenario_text.specs.Requests as texts;
 ghost use Rattle.transcript_text.specs.Fields.{spaced};
@@ -105,14 +105,14 @@ fn put_op_arguments(out: &mut TextWriter, op: &Op) -> Result<(), NoMemory>
 
 /// A remote address and its key.
 fn put_remote(out: &mut TextWriter, raddr: u64, rkey: u32) -> Result<(), NoMemory>
-    ensures { OnOk result (out.new ≡ out.old ++ 32 ∷ decimal raddr ++ 32 ∷ texts.key_text rkey) }
+    ensures { OnOk result (out.new ≡ out.old ++ spaced (decimal raddr ∷ texts.key_text rkey ∷ [])) }
 {
     out.put_number_field(raddr)?;
     put_key(out, rkey)
 }
 
 fn put_key(out: &mut TextWriter, key: u32) -> Result<(), NoMemory>
-    ensures { OnOk result (out.new ≡ out.old ++ 32 ∷ texts.key_text key) }
+    ensures { OnOk result (out.new ≡ out.old ++ (codes " " ++ texts.key_text key)) }
 {
     out.put_field(b"#")?;
     out.put_hex(8, key)
@@ -137,7 +137,7 @@ fn put_sges(out: &mut TextWriter, sges: &[Sge]) -> Result<(), NoMemory>
 }
 
 fn put_sge(out: &mut TextWriter, sge: &Sge) -> Result<(), NoMemory>
-    ensures { OnOk result (out.new ≡ out.old ++ 32 ∷ texts.sge_text sge.now) }
+    ensures { OnOk result (out.new ≡ out.old ++ (codes " " ++ texts.sge_text sge.now)) }
 {
     put_key(out, sge.key)?;
     out.put_number_part(sge.addr)?;
@@ -146,7 +146,7 @@ fn put_sge(out: &mut TextWriter, sge: &Sge) -> Result<(), NoMemory>
 
 /// Bytes that stand in the request itself.
 fn put_inline(out: &mut TextWriter, bytes: &[u8]) -> Result<(), NoMemory>
-    ensures { OnOk result (out.new ≡ out.old ++ 32 ∷ 61 ∷ flat_map (texts.hex 2) bytes.now) }
+    ensures { OnOk result (out.new ≡ out.old ++ (codes " =" ++ flat_map (texts.hex 2) bytes.now)) }
 {
     out.put_field(b"=")?;
     for byte in bytes {

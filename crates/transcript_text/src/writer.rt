@@ -1,5 +1,5 @@
 //! A text that grows at its end.
-ghost use Rattle.std.specs.Prelude.{◌≡◌, ◌≤◌, [], ◌∷◌, ◌++◌, decimal, OnOk};
+ghost use Rattle.std.specs.Prelude.{◌≡◌, ◌≤◌, [], ◌∷◌, ◌++◌, codes, decimal, OnOk};
 ghost use Rattle.scenario_text.specs.Requests.{hex, hex_digit};
 
 use itoa::Buffer;
@@ -7,7 +7,7 @@ use std::alloc::Global;
 use std::marker::Model;
 use verbs_model::NoMemory;
 
-/// A text to which pieces are added at its end. After an error the text has a part of the piece, or nothing of it.
+/// A text to which pieces are added at its end. After an error it may have a part of the piece.
 #[derive(Debug, Drop)]
 pub struct TextWriter {
     text: Vec<u8>,
@@ -78,7 +78,7 @@ impl TextWriter {
 
     /// Adds a space and these bytes.
     pub fn put_field(&mut self, field: &[u8]) -> Result<(), NoMemory>
-        ensures { OnOk result (self.new ≡ self.old ++ 32 ∷ field.now) }
+        ensures { OnOk result (self.new ≡ self.old ++ (codes " " ++ field.now)) }
     {
         self.put_byte(b' ')?;
         self.put_bytes(field)
@@ -86,7 +86,7 @@ impl TextWriter {
 
     /// Adds a space and a number in decimal digits.
     pub fn put_number_field(&mut self, number: u64) -> Result<(), NoMemory>
-        ensures { OnOk result (self.new ≡ self.old ++ 32 ∷ decimal number) }
+        ensures { OnOk result (self.new ≡ self.old ++ (codes " " ++ decimal number)) }
     {
         self.put_byte(b' ')?;
         self.put_number(number)
@@ -94,7 +94,7 @@ impl TextWriter {
 
     /// Adds a colon and these bytes.
     pub fn put_part(&mut self, part: &[u8]) -> Result<(), NoMemory>
-        ensures { OnOk result (self.new ≡ self.old ++ 58 ∷ part.now) }
+        ensures { OnOk result (self.new ≡ self.old ++ (codes ":" ++ part.now)) }
     {
         self.put_byte(b':')?;
         self.put_bytes(part)
@@ -102,7 +102,7 @@ impl TextWriter {
 
     /// Adds a colon and a number in decimal digits.
     pub fn put_number_part(&mut self, number: u64) -> Result<(), NoMemory>
-        ensures { OnOk result (self.new ≡ self.old ++ 58 ∷ decimal number) }
+        ensures { OnOk result (self.new ≡ self.old ++ (codes ":" ++ decimal number)) }
     {
         self.put_byte(b':')?;
         self.put_number(number)
@@ -110,7 +110,7 @@ impl TextWriter {
 
     /// Ends a line.
     pub fn end_line(&mut self) -> Result<(), NoMemory>
-        ensures { OnOk result (self.new ≡ self.old ++ 10 ∷ []) }
+        ensures { OnOk result (self.new ≡ self.old ++ codes "\n") }
     {
         self.put_byte(b'\n')
     }
