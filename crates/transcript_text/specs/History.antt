@@ -19,7 +19,7 @@ use Rattle.scenario_text.specs.Spelling as scenario
 abbrev pub actor_name : Lines → ℕ → List ℕ
 actor_name d n = if n == CONTROL then codes "ctl" else scenario.actor_name d n
 
--- a send queue or a receive queue of a queue pair; a shared receive queue, once one can be declared, has its own name
+-- a send or receive queue of a queue pair; no shared receive queue can be declared yet: its text will be its name, `SRQ@QP` in a completion
 abbrev pub queue_name : Lines → Queue → List ℕ
 queue_name d (Send qp) = qp_name d qp ++ codes ".s"
 queue_name d (Recv qp) = qp_name d qp ++ codes ".r"

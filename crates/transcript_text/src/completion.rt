@@ -32,7 +32,8 @@ pub(crate) fn put_completion(
     completion: &Completion,
 ) -> Result<(), NoMemory>
     requires { IsCompletion lines.now completion.now }
-    ensures { OnOk result (out.new ≡ out.old ++ (codes " " ++ texts.completion_text lines.now completion.now)) }
+    ensures { OnOk result (out.new
+        ≡ out.old ++ (codes " " ++ texts.completion_text lines.now completion.now)) }
 {
     put_queue(out, lines, completion.queue)?;
     out.put_number_part(completion.id)?;

@@ -33,7 +33,8 @@ fn put_objects(out: &mut TextWriter, lines: &Lines) -> Result<(), NoMemory>
 
 fn put_connects(out: &mut TextWriter, lines: &Lines) -> Result<(), NoMemory>
     requires { IsTrue (is_declared lines.now) }
-    ensures { OnOk result (out.new ≡ out.old ++ flat_map (heads.connect_text lines.now) lines.now.connects) }
+    ensures { OnOk result (out.new
+        ≡ out.old ++ flat_map (heads.connect_text lines.now) lines.now.connects) }
 {
     for connect in lines.connects.as_slice() {
         put_connect(out, lines, *connect)?;

@@ -12,7 +12,7 @@ use std::alloc::Global;
 use verbs_model::{Declared, Entry, Lines, NoMemory};
 
 /// The text of a history: a title, the declaration and connect lines, a line an entry, and the
-/// count of entries.
+/// count of entries. The only error is that memory ran out.
 pub fn print_history(
     alloc: Global,
     declared: &Declared,

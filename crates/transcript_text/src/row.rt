@@ -2,7 +2,7 @@
 ghost use Rattle.std.specs.Prelude.{◌≡◌, ◌++◌, map, All, OnOk};
 ghost use Rattle.verbs_model.specs.declared.entry.What.TheVariants as what;
 ghost use Rattle.transcript_text.specs.Numbers.{IsCq, IsQueue, IsCompletion, NamesDeclared};
-ghost use Rattle.transcript_text.specs.Fields.{spaced};
+ghost use Rattle.transcript_text.specs.Fields.{spaced, row_text};
 ghost use Rattle.transcript_text.specs.History as texts;
 
 use crate::completion::{put_completion, put_queue};
@@ -14,7 +14,7 @@ use verbs_model::{Completion, Item, Lines, NoMemory, Queue, What};
 /// The fields of a line after its actor.
 pub(crate) fn put_what(out: &mut TextWriter, lines: &Lines, what: &What) -> Result<(), NoMemory>
     requires { NamesDeclared lines.now what.now }
-    ensures { OnOk result (out.new ≡ out.old ++ spaced (texts.what_fields lines.now what.now)) }
+    ensures { OnOk result (out.new ≡ out.old ++ row_text lines.now what.now) }
 {
     match what {
         What::Post { queue, items } => put_post(out, lines, *queue, items.as_slice()),
@@ -43,7 +43,7 @@ fn put_post(
     items: &[Item],
 ) -> Result<(), NoMemory>
     requires { IsQueue lines.now queue }
-    ensures { OnOk result (out.new ≡ out.old ++ spaced (texts.what_fields lines.now (what.Post queue items.now))) }
+    ensures { OnOk result (out.new ≡ out.old ++ row_text lines.now (what.Post queue items.now)) }
 {
     out.put_field(b"post")?;
     put_queue(out, lines, queue)?;
@@ -59,7 +59,7 @@ fn put_full(
     tail: u64,
 ) -> Result<(), NoMemory>
     requires { IsQueue lines.now queue }
-    ensures { OnOk result (out.new ≡ out.old ++ spaced (texts.what_fields lines.now (what.PostFull queue pending head tail))) }
+    ensures { OnOk result (out.new ≡ out.old ++ row_text lines.now (what.PostFull queue pending head tail)) }
 {
     out.put_field(b"full")?;
     put_queue(out, lines, queue)?;
@@ -77,7 +77,7 @@ fn put_poll(
 ) -> Result<(), NoMemory>
     requires cq { IsCq lines.now cq }
     requires completions { All (IsCompletion lines.now) completions.now }
-    ensures { OnOk result (out.new ≡ out.old ++ spaced (texts.what_fields lines.now (what.Poll cq max completions.now))) }
+    ensures { OnOk result (out.new ≡ out.old ++ row_text lines.now (what.Poll cq max completions.now)) }
 {
     out.put_field(b"poll")?;
     out.put_field(cq_name(lines, cq))?;
@@ -95,7 +95,8 @@ fn put_completions(
     completions: &[Completion],
 ) -> Result<(), NoMemory>
     requires { All (IsCompletion lines.now) completions.now }
-    ensures { OnOk result (out.new ≡ out.old ++ spaced (map (texts.completion_text lines.now) completions.now)) }
+    ensures { OnOk result (out.new
+        ≡ out.old ++ spaced (map (texts.completion_text lines.now) completions.now)) }
 {
     for completion in completions {
         put_completion(out, lines, completion)?;
@@ -105,7 +106,7 @@ fn put_completions(
 
 fn put_retire(out: &mut TextWriter, lines: &Lines, queue: Queue, count: u64) -> Result<(), NoMemory>
     requires { IsQueue lines.now queue }
-    ensures { OnOk result (out.new ≡ out.old ++ spaced (texts.what_fields lines.now (what.Retire queue count))) }
+    ensures { OnOk result (out.new ≡ out.old ++ row_text lines.now (what.Retire queue count)) }
 {
     out.put_field(b"retire")?;
     put_queue(out, lines, queue)?;
@@ -114,7 +115,7 @@ fn put_retire(out: &mut TextWriter, lines: &Lines, queue: Queue, count: u64) -> 
 
 fn put_ack(out: &mut TextWriter, lines: &Lines, cq: u32, index: u64) -> Result<(), NoMemory>
     requires { IsCq lines.now cq }
-    ensures { OnOk result (out.new ≡ out.old ++ spaced (texts.what_fields lines.now (what.Ack cq index))) }
+    ensures { OnOk result (out.new ≡ out.old ++ row_text lines.now (what.Ack cq index)) }
 {
     out.put_field(b"ack")?;
     out.put_field(cq_name(lines, cq))?;
@@ -123,7 +124,7 @@ fn put_ack(out: &mut TextWriter, lines: &Lines, cq: u32, index: u64) -> Result<(
 
 fn put_fetch(out: &mut TextWriter, lines: &Lines, queue: Queue, number: u64) -> Result<(), NoMemory>
     requires { IsQueue lines.now queue }
-    ensures { OnOk result (out.new ≡ out.old ++ spaced (texts.what_fields lines.now (what.Fetch queue number))) }
+    ensures { OnOk result (out.new ≡ out.old ++ row_text lines.now (what.Fetch queue number)) }
 {
     out.put_field(b"fetch")?;
     put_queue(out, lines, queue)?;
@@ -138,7 +139,7 @@ fn put_publish(
 ) -> Result<(), NoMemory>
     requires cq { IsCq lines.now cq }
     requires completion { IsCompletion lines.now completion.now }
-    ensures { OnOk result (out.new ≡ out.old ++ spaced (texts.what_fields lines.now (what.Publish cq completion.now))) }
+    ensures { OnOk result (out.new ≡ out.old ++ row_text lines.now (what.Publish cq completion.now)) }
 {
     out.put_field(b"publish")?;
     out.put_field(cq_name(lines, cq))?;
