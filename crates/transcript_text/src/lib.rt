@@ -14,4 +14,6 @@ pub use history::{print_history, put_history};
 pub use writer::TextWriter;
 
 #[cfg(test)]
+mod request_tests;
+#[cfg(test)]
 mod tests;

@@ -1,14 +1,12 @@
-//! Whole texts, written out.
+//! Whole histories, written out.
 ghost use Rattle.std.specs.Prelude.{◌≡◌, length, IfOk};
 
-use crate::request::put_items;
-use crate::{TextWriter, print_history};
+use crate::print_history;
 use std::alloc::Global;
 use std::test::Fail;
 use verbs_model::{
     ADAPTER, Body, CONTROL, Completion, Connect, CqLine, Declared, Entry, EqLine, FIRST_PD,
-    FIRST_QP, Item, Kind, Lines, Name, Object, Op, PdLine, QpLine, Queue, Receive, Request,
-    Sequence, Sge, What,
+    FIRST_QP, Item, Kind, Lines, Name, Object, Op, PdLine, QpLine, Queue, Request, Sequence, What,
 };
 
 const SEND: Queue = Queue::Send(FIRST_QP);
@@ -80,24 +78,14 @@ fn one_pair(alloc: Global) -> Result<Declared, Fail>
     Ok(Declared::new(lines)?)
 }
 
-fn no_sges(alloc: Global) -> Body {
-    Body::Sges(Sequence::from_vec(Vec::new(alloc)))
-}
-
 fn nop(alloc: Global, id: u64, wanted: bool) -> Item {
-    request(id, Op::Nop, (wanted, false, false), no_sges(alloc))
-}
-
-/// A request with these flags: a completion is wanted, solicited, fence.
-fn request(id: u64, op: Op, flags: (bool, bool, bool), body: Body) -> Item {
-    let (wanted, solicited, fence) = flags;
     Item::Request(Request {
         id,
-        op,
+        op: Op::Nop,
         wanted,
-        solicited,
-        fence,
-        body,
+        solicited: false,
+        fence: false,
+        body: Body::Sges(Sequence::from_vec(Vec::new(alloc))),
     })
 }
 
@@ -270,125 +258,3 @@ dev publish c q.r:9:5:failed:0:-:s
 a poll c 16 q.r:9:0:recvimm:32:5:s q.s:8:0:nop:0:-:-
 end 3
 ";
-
-/// One segment of 32 bytes.
-fn segment(alloc: Global) -> Result<Body, Fail> {
-    Ok(Body::Sges(Sequence::from_vec(vec![in alloc;
-        Sge {
-            key: 0xabc,
-            addr: 64,
-            len: 32
-        },
-    ]?)))
-}
-
-#[test]
-fn each_operation(rt: HostRuntime) -> Result<(), Fail> {
-    let alloc = rt.alloc();
-    let two = vec![in alloc;
-        Sge {
-            key: 0xabc,
-            addr: 64,
-            len: 32
-        },
-        Sge {
-            key: 0xffff_ff00,
-            addr: 0,
-            len: u32::MAX
-        },
-    ]?;
-    let inline = vec![in alloc; 0, 0x9a, 0xff]?;
-    let one = vec![in alloc;
-        Sge {
-            key: 0xabc,
-            addr: 64,
-            len: 32
-        },
-    ]?;
-    let items = [
-        request(
-            u64::MAX,
-            Op::Send,
-            (true, true, true),
-            Body::Sges(Sequence::from_vec(two)),
-        ),
-        request(
-            2,
-            Op::SendImm { imm: u32::MAX },
-            (false, true, true),
-            Body::Inline(Sequence::from_vec(inline)),
-        ),
-        request(
-            3,
-            Op::Write {
-                raddr: 2048,
-                rkey: 0x5a,
-            },
-            (false, false, true),
-            segment(alloc)?,
-        ),
-        request(
-            4,
-            Op::WriteImm {
-                raddr: u64::MAX,
-                rkey: 0x123,
-                imm: 7,
-            },
-            (false, true, false),
-            Body::Inline(Sequence::from_vec(Vec::new(alloc))),
-        ),
-        request(
-            5,
-            Op::Read {
-                raddr: 0,
-                rkey: 0x200,
-            },
-            (true, false, true),
-            segment(alloc)?,
-        ),
-        request(
-            6,
-            Op::Cas {
-                raddr: 8,
-                rkey: 0x300,
-                compare: 9,
-                swap: 10,
-            },
-            (true, false, false),
-            segment(alloc)?,
-        ),
-        request(
-            7,
-            Op::Faa {
-                raddr: 16,
-                rkey: 0x400,
-                add: 1,
-            },
-            (true, true, false),
-            segment(alloc)?,
-        ),
-        Item::Receive(Receive {
-            id: 8,
-            sges: Sequence::from_vec(one),
-        }),
-        Item::Receive(Receive {
-            id: 9,
-            sges: Sequence::from_vec(Vec::new(alloc)),
-        }),
-    ];
-    let mut out = TextWriter::new(alloc);
-    put_items(&mut out, &items)?;
-    assert_eq!(rt; out.into_vec().as_slice(), EACH_OPERATION);
-    Ok(())
-}
-
-const EACH_OPERATION: &[u8] =
-    b" + 18446744073709551615 send csf #00000abc:64:32 #ffffff00:0:4294967295 \
-+ 2 sendimm sf 4294967295 =009aff \
-+ 3 write f 2048 #0000005a #00000abc:64:32 \
-+ 4 writeimm s 18446744073709551615 #00000123 7 = \
-+ 5 read cf 0 #00000200 #00000abc:64:32 \
-+ 6 cas c 8 #00000300 9 10 #00000abc:64:32 \
-+ 7 faa cs 16 #00000400 1 #00000abc:64:32 \
-+ 8 #00000abc:64:32 \
-+ 9";
