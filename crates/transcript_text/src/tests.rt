@@ -25,6 +25,30 @@ const EIGHT: Completion = Completion {
     solicited: false,
 };
 
+/// The completion of a receive of a send with immediate.
+const RECEIVED: Completion = Completion {
+    queue: RECV,
+    qp: FIRST_QP,
+    id: 9,
+    status: 0,
+    kind: Kind::RecvImm,
+    len: 32,
+    imm: Some(5),
+    solicited: true,
+};
+
+/// The completion of a receive that was flushed.
+const FLUSHED: Completion = Completion {
+    queue: RECV,
+    qp: FIRST_QP,
+    id: 9,
+    status: 5,
+    kind: Kind::Failed,
+    len: 0,
+    imm: None,
+    solicited: true,
+};
+
 /// One queue pair, connected with itself, one completion queue, and the threads a and b.
 fn one_pair(alloc: Global) -> Result<Declared, Fail>
     ensures cqs { IfOk result (λ d. length d.cqs ≡ 1) }
@@ -195,27 +219,7 @@ end 8
 fn full_and_failed(rt: HostRuntime) -> Result<(), Fail> {
     let alloc = rt.alloc();
     let declared = one_pair(alloc)?;
-    let received = Completion {
-        queue: RECV,
-        qp: FIRST_QP,
-        id: 9,
-        status: 0,
-        kind: Kind::RecvImm,
-        len: 32,
-        imm: Some(5),
-        solicited: true,
-    };
-    let flushed = Completion {
-        queue: RECV,
-        qp: FIRST_QP,
-        id: 9,
-        status: 5,
-        kind: Kind::Failed,
-        len: 0,
-        imm: None,
-        solicited: true,
-    };
-    let polled = vec![in alloc; received, EIGHT]?;
+    let polled = vec![in alloc; RECEIVED, EIGHT]?;
     let history = [
         Entry {
             actor: CONTROL,
@@ -230,7 +234,7 @@ fn full_and_failed(rt: HostRuntime) -> Result<(), Fail> {
             actor: ADAPTER,
             what: What::Publish {
                 cq: 0,
-                completion: flushed,
+                completion: FLUSHED,
             },
         },
         Entry {
