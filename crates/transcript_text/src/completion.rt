@@ -7,7 +7,7 @@ use crate::names::qp_name;
 use crate::writer::TextWriter;
 use verbs_model::{Completion, Kind, Lines, NoMemory, Queue};
 
-/// A space and the name of a queue.
+/// Adds a space and the name of a queue.
 pub(crate) fn put_queue(out: &mut TextWriter, lines: &Lines, queue: Queue) -> Result<(), NoMemory>
     requires { IsQueue lines.now queue }
     ensures { OnOk result (out.new ≡ out.old ++ (codes " " ++ texts.queue_name lines.now queue)) }
@@ -25,7 +25,7 @@ pub(crate) fn put_queue(out: &mut TextWriter, lines: &Lines, queue: Queue) -> Re
     }
 }
 
-/// A space and a completion, its parts with colons between them.
+/// Adds a space and a completion, its parts with colons between them.
 pub(crate) fn put_completion(
     out: &mut TextWriter,
     lines: &Lines,

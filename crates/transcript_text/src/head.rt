@@ -12,7 +12,8 @@ use verbs_model::{
     Connect, CqLine, Declared, EqLine, FIRST_PD, FIRST_QP, Lines, NoMemory, Object, PdLine, QpLine,
 };
 
-/// The lines that declare objects, in their own order, and then those that connect queue pairs.
+/// Adds the lines that declare objects, in their own order, and then those that connect queue
+/// pairs.
 pub fn put_head(out: &mut TextWriter, declared: &Declared) -> Result<(), NoMemory>
     ensures { OnOk result (out.new ≡ out.old ++ heads.head_text declared.now) }
 {
@@ -95,7 +96,7 @@ fn put_qp(out: &mut TextWriter, lines: &Lines, line: &QpLine) -> Result<(), NoMe
     out.end_line()
 }
 
-/// The queue pair, its protection domain and its completion queues.
+/// Adds the names of the queue pair, its protection domain and its completion queues.
 fn put_qp_names(out: &mut TextWriter, lines: &Lines, line: &QpLine) -> Result<(), NoMemory>
     requires { IsTrue (is_qp_line lines.now line.now) }
     ensures { OnOk result (out.new ≡ out.old ++ spaced (qp_names lines.now line.now)) }
@@ -106,7 +107,7 @@ fn put_qp_names(out: &mut TextWriter, lines: &Lines, line: &QpLine) -> Result<()
     out.put_field(cq_name(lines, line.recv_cq))
 }
 
-/// The places of its queues, the segments of a request, and the start value.
+/// Adds the logs of its places, the segments of a request, and the start value.
 fn put_qp_sizes(out: &mut TextWriter, line: &QpLine) -> Result<(), NoMemory>
     ensures { OnOk result (out.new ≡ out.old ++ spaced (qp_sizes line.now)) }
 {

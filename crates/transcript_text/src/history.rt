@@ -11,8 +11,8 @@ use crate::writer::TextWriter;
 use std::alloc::Global;
 use verbs_model::{Declared, Entry, Lines, NoMemory};
 
-/// The text of a history: a title, the declaration and connect lines, a line an entry, and the
-/// count of entries. The only error is that memory ran out.
+/// Prints a history, in this project's own form: a title, the declaration and connect lines, a line
+/// an entry, and the count of entries. The only error is that memory ran out.
 pub fn print_history(
     alloc: Global,
     declared: &Declared,
@@ -26,7 +26,7 @@ pub fn print_history(
     Ok(out.into_vec())
 }
 
-/// Adds the text of a history.
+/// Adds a history, as `print_history` prints it.
 pub fn put_history(
     out: &mut TextWriter,
     declared: &Declared,
@@ -41,7 +41,7 @@ pub fn put_history(
     put_end(out, history.len() as u64)
 }
 
-/// The last line, with the count of entries.
+/// Adds the last line, with the count of entries.
 fn put_end(out: &mut TextWriter, count: u64) -> Result<(), NoMemory>
     ensures { OnOk result (out.new ≡ out.old ++ texts.end_text count) }
 {

@@ -7,7 +7,7 @@ ghost use Rattle.transcript_text.specs.Fields.{spaced};
 use crate::writer::TextWriter;
 use verbs_model::{Body, Item, NoMemory, Op, Receive, Request, Sge};
 
-/// The items in order, each as in a scenario, from its `+` on.
+/// Adds the items in order, each as in a scenario, from its `+` on.
 pub(crate) fn put_items(out: &mut TextWriter, items: &[Item]) -> Result<(), NoMemory>
     ensures { OnOk result (out.new ≡ out.old ++ spaced (flat_map texts.item_fields items.now)) }
 {
@@ -103,7 +103,7 @@ fn put_op_arguments(out: &mut TextWriter, op: &Op) -> Result<(), NoMemory>
     }
 }
 
-/// A remote address and its key.
+/// Adds a remote address and its key.
 fn put_remote(out: &mut TextWriter, raddr: u64, rkey: u32) -> Result<(), NoMemory>
     ensures { OnOk result (out.new ≡ out.old ++ spaced (decimal raddr ∷ texts.key_text rkey ∷ [])) }
 {
@@ -144,7 +144,7 @@ fn put_sge(out: &mut TextWriter, sge: &Sge) -> Result<(), NoMemory>
     out.put_number_part(u64::from(sge.len))
 }
 
-/// Bytes that stand in the request itself.
+/// Adds the bytes that stand in the request itself.
 fn put_inline(out: &mut TextWriter, bytes: &[u8]) -> Result<(), NoMemory>
     ensures { OnOk result (out.new ≡ out.old ++ (codes " =" ++ flat_map (texts.hex 2) bytes.now)) }
 {

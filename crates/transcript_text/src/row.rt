@@ -11,7 +11,7 @@ use crate::request::put_items;
 use crate::writer::TextWriter;
 use verbs_model::{Completion, Item, Lines, NoMemory, Queue, What};
 
-/// The fields of a line after its actor.
+/// Adds the fields of a line after its actor.
 pub(crate) fn put_what(out: &mut TextWriter, lines: &Lines, what: &What) -> Result<(), NoMemory>
     requires { NamesDeclared lines.now what.now }
     ensures { OnOk result (out.new ≡ out.old ++ row_text lines.now what.now) }
