@@ -1,0 +1,90 @@
+//! The commands, over a source and two sinks.
+ghost use Rattle.std.specs.Prelude.{◌≡◌, map, string_bytes};
+ghost use Rattle.mlx5_cli.specs.Run.{asks_for_run as asks, Says, status_of};
+
+use crate::history::{Refusal, history_of};
+use crate::reading::{ReadError, read_all};
+use crate::sink::Sink;
+use crate::source::Source;
+use crate::status::Status;
+use crate::writing::write_all;
+use std::alloc::Global;
+
+impl From<ReadError> for Status {
+    ghost use Rattle.std.specs.Prelude.{◌≡◌};
+    ghost use Rattle.mlx5_cli.specs.Status.{status_of_unread};
+
+    ghost from_gives = { λ e s. s ≡ status_of_unread e };
+
+    fn from(error: ReadError) -> Status {
+        match error {
+            ReadError::Failed => Status::ReadFault,
+            ReadError::TooLong => Status::Malformed,
+            ReadError::NoMemory => Status::NoMemory,
+        }
+    }
+}
+
+impl From<Refusal> for Status {
+    ghost use Rattle.std.specs.Prelude.{◌≡◌};
+    ghost use Rattle.mlx5_cli.specs.Status.{status_of_refused};
+
+    ghost from_gives = { λ e s. s ≡ status_of_refused e };
+
+    fn from(refusal: Refusal) -> Status {
+        match refusal {
+            Refusal::NotBuilt => Status::Malformed,
+            Refusal::NoMemory => Status::NoMemory,
+        }
+    }
+}
+
+/// Does what the words after the program's name ask for, and gives the status.
+///
+/// The one form is `run`: it reads a scenario from `source` and writes the history of its run to
+/// `out`, which gets no byte before the whole text is made. The line of any other status goes to
+/// `err`; a failed write there changes no status.
+pub fn run_plain<S: Source, K: Sink, E: Sink>(
+    alloc: Global,
+    words: &[String],
+    source: &mut S,
+    out: &mut K,
+    err: &mut E,
+) -> Status
+    ensures says { Says (record { words = map string_bytes words.now; source = S.state source.old; source_after = S.state source.new; out = K.state out.old; out_after = K.state out.new }) result }
+{
+    match printed(alloc, words, source, out) {
+        Ok(()) => Status::Done,
+        Err(status) => {
+            let _ = write_all(err, status.line().as_bytes());
+            status
+        }
+    }
+}
+
+/// Reads, runs and writes, or stops with the status that ends the command.
+fn printed<S: Source, K: Sink>(
+    alloc: Global,
+    words: &[String],
+    source: &mut S,
+    out: &mut K,
+) -> Result<(), Status>
+    ensures { Says (record { words = map string_bytes words.now; source = S.state source.old; source_after = S.state source.new; out = K.state out.old; out_after = K.state out.new }) (status_of result) }
+{
+    if !asks_for_run(words) {
+        return Err(Status::Usage);
+    }
+    let text = read_all(alloc, source)?;
+    let history = history_of(alloc, text.as_slice())?;
+    write_all(out, history.as_slice()).map_err(|_| Status::WriteFault)
+}
+
+/// Whether the words are `run` alone.
+fn asks_for_run(words: &[String]) -> bool
+    ensures { result ≡ asks (map string_bytes words.now) }
+{
+    match words {
+        [word] => word.as_str() == "run",
+        _ => false,
+    }
+}

@@ -1,0 +1,66 @@
+//! The standard streams of the process as a source and as sinks.
+//!
+//! They tell no bytes. Nothing is kept in a buffer: each call is one call of the system.
+
+use crate::failed::Failed;
+use crate::sink::Sink;
+use crate::source::Source;
+use std::io::{Read, Write};
+
+/// A source over a reader, as standard input.
+#[derive(Drop)]
+pub struct StreamSource<R> {
+    reader: R,
+    faults: u64,
+}
+
+/// A sink over a writer, as standard output and standard error.
+#[derive(Drop)]
+pub struct StreamSink<W> {
+    writer: W,
+    faults: u64,
+}
+
+impl<R> StreamSource<R> {
+    pub fn new(reader: R) -> Self {
+        StreamSource { reader, faults: 0 }
+    }
+}
+
+impl<W> StreamSink<W> {
+    pub fn new(writer: W) -> Self {
+        StreamSink { writer, faults: 0 }
+    }
+}
+
+impl<R: Read> Source for StreamSource<R> {
+    ghost use Rattle.std.specs.Prelude.{None};
+
+    ghost state = { λ s. record { left = None; faults = s.faults } };
+
+    fn read(&mut self, buf: &mut [u8]) -> Result<usize, Failed> {
+        match self.reader.read(buf) {
+            Ok(count) => Ok(count),
+            Err(_) => {
+                self.faults = self.faults.saturating_add(1);
+                Err(Failed)
+            }
+        }
+    }
+}
+
+impl<W: Write> Sink for StreamSink<W> {
+    ghost use Rattle.std.specs.Prelude.{None};
+
+    ghost state = { λ s. record { written = None; faults = s.faults } };
+
+    fn write(&mut self, piece: &[u8]) -> Result<usize, Failed> {
+        match self.writer.write(piece) {
+            Ok(count) if count > 0 || piece.is_empty() => Ok(count),
+            _ => {
+                self.faults = self.faults.saturating_add(1);
+                Err(Failed)
+            }
+        }
+    }
+}
