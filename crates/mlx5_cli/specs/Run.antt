@@ -1,6 +1,7 @@
 -- What a call of `run_plain` was given, what it left, and what its status says of both.
-use Rattle.std.specs.Prelude.{ℕ, ◌≡◌, ◌≢◌, ◌+◌, ◌⊎◌, Bool, true, false, List, [], ◌∷◌, take, Option, Result, Ok, Err, IfSome, codes}
+use Rattle.std.specs.Prelude.{String, map, string_bytes, ℕ, ◌≡◌, ◌≢◌, ◌+◌, ◌⊎◌, ◌↔◌, Bool, true, false, List, [], ◌∷◌, Option, Result, Ok, Err, IfSome, IsSome, codes}
 use Rattle.std.specs.Str.{bytes_eq}
+use Rattle.std.specs.declared.alloc.Global.{Global}
 use Rattle.std.specs.Io.KnownBytes.{Appends}
 use Rattle.mlx5_cli.specs.declared.reading.TheConstants.{TEXT_LIMIT}
 use Rattle.mlx5_cli.specs.declared.status.Status.{Status}
@@ -20,6 +21,15 @@ pub record Call : Type 0 where
   pub source_after : SourceState
   pub out : SinkState
   pub out_after : SinkState
+
+abbrev pub call : List (String Global) → SourceState → SourceState → SinkState → SinkState → Call
+call words source source_after out out_after = record {
+  words = map string_bytes words;
+  source = source;
+  source_after = source_after;
+  out = out;
+  out_after = out_after;
+}
 
 -- the words are the one word `run`
 abbrev pub asks_for_run : List (List ℕ) → Bool
@@ -89,12 +99,25 @@ abbrev pub status_of : {T : Type 0} → Result T Status → Status
 status_of (Ok _) = Done
 status_of (Err status) = status
 
--- a telling source whose text is outside the grammar is answered so, unless a read failed or memory ran out
+-- Usage exactly where the words are not `run`
+abbrev pub UsageExactly : Call → Status → Type 0
+UsageExactly c status = (status ≡ Usage) ↔ (asks_for_run c.words ≡ false)
+
+-- Malformed exactly where what a telling source gave is outside the grammar, unless a read failed or memory ran out
 abbrev pub MalformedExactly : Call → Status → Type 0
 MalformedExactly c status = asks_for_run c.words ≡ true → status ≢ ReadFault → status ≢ NoMemory
-    → IfSome c.source.left (λ input. (¬ OfGrammar (take (TEXT_LIMIT + 1) input)) → status ≡ Malformed)
+    → IsSome c.source.left → (text : List ℕ) → ReadsText c text → (¬ OfGrammar text) → status ≡ Malformed
 
--- a telling source whose text is of the grammar is answered by its history, unless a count rose or memory ran out
+-- neither count of faults rose
+pub record HasNoFault (c : Call) : Type 0 where
+  pub source : ¬ Rose c.source.faults c.source_after.faults
+  pub out : ¬ Rose c.out.faults c.out_after.faults
+
+-- the text of a telling source that is of the grammar gets its history, unless a count rose or memory ran out
 abbrev pub DoneUnless : Call → Status → Type 0
-DoneUnless c status = asks_for_run c.words ≡ true → (¬ Rose c.source.faults c.source_after.faults) → (¬ Rose c.out.faults c.out_after.faults) → status ≢ NoMemory
+DoneUnless c status = asks_for_run c.words ≡ true → HasNoFault c → status ≢ NoMemory
     → IfSome c.source.left (λ input. OfGrammar input → status ≡ Done)
+
+-- unless a write failed, the line was written to the error sink
+abbrev pub Tells : SinkState → SinkState → List ℕ → Type 0
+Tells old new line = (¬ Rose old.faults new.faults) → Appends old.written new.written line

@@ -1,6 +1,7 @@
 //! The commands, over a source and two sinks.
-ghost use Rattle.std.specs.Prelude.{◌≡◌, map, string_bytes};
-ghost use Rattle.mlx5_cli.specs.Run.{asks_for_run as asks, Says, status_of};
+ghost use Rattle.std.specs.Prelude.{◌≡◌, ◌≢◌, ◌↔◌, IfErr, false, map, string_bytes};
+ghost use Rattle.mlx5_cli.specs.Status.{line_of};
+ghost use Rattle.mlx5_cli.specs.Run.{asks_for_run as asks, call, Says, status_of, UsageExactly, MalformedExactly, DoneUnless, Tells};
 
 use crate::history::{Refusal, history_of};
 use crate::reading::{ReadError, read_all};
@@ -51,7 +52,14 @@ pub fn run_plain<S: Source, K: Sink, E: Sink>(
     out: &mut K,
     err: &mut E,
 ) -> Status
-    ensures says { Says (record { words = map string_bytes words.now; source = S.state source.old; source_after = S.state source.new; out = K.state out.old; out_after = K.state out.new }) result }
+    ensures says { Says (call words.now (S.state source.old) (S.state source.new) (K.state out.old) (K.state out.new)) result }
+
+    ensures usage { UsageExactly (call words.now (S.state source.old) (S.state source.new) (K.state out.old) (K.state out.new)) result }
+    ensures malformed { MalformedExactly (call words.now (S.state source.old) (S.state source.new) (K.state out.old) (K.state out.new)) result }
+    ensures done { DoneUnless (call words.now (S.state source.old) (S.state source.new) (K.state out.old) (K.state out.new)) result }
+
+    ensures quiet { result ≡ Status.Done → E.state err.new ≡ E.state err.old }
+    ensures told { Tells (E.state err.old) (E.state err.new) (line_of result) }
 {
     match printed(alloc, words, source, out) {
         Ok(()) => Status::Done,
@@ -69,7 +77,8 @@ fn printed<S: Source, K: Sink>(
     source: &mut S,
     out: &mut K,
 ) -> Result<(), Status>
-    ensures { Says (record { words = map string_bytes words.now; source = S.state source.old; source_after = S.state source.new; out = K.state out.old; out_after = K.state out.new }) (status_of result) }
+    ensures says { Says (call words.now (S.state source.old) (S.state source.new) (K.state out.old) (K.state out.new)) (status_of result) }
+    ensures stops { IfErr result (λ status. status ≢ Status.Done) }
 {
     if !asks_for_run(words) {
         return Err(Status::Usage);
