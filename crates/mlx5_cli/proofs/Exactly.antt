@@ -6,7 +6,7 @@ use Rattle.mlx5_cli.specs.declared.status.Status.{Status}
 use Rattle.mlx5_cli.specs.declared.status.Status.TheVariants.{Done, Illegal, Usage, Malformed, Limit, ReadFault, WriteFault, SpawnFault, NoMemory}
 use Rattle.mlx5_cli.specs.Reading.{ReadsWhole, ReadsTooMuch}
 use Rattle.mlx5_cli.specs.Grammar.{OfGrammar}
-use Rattle.mlx5_cli.specs.Run.{Call, Says, ReadsText, UsageExactly, MalformedExactly, DoneUnless}
+use Rattle.mlx5_cli.specs.Run.{Call, Says, ReadsText, UsageExactly, MalformedExactly, DoneUnless, Answers}
 use Rattle.mlx5_cli.proofs.GrammarLemmas.{length-of_grammar}
 
 -- a fact about a value that is told gives another
@@ -54,7 +54,7 @@ not_bad : (P : Type 0) (c : Call) (text bytes : List ℕ) → ReadsWhole c.sourc
 not_bad P c text bytes whole good told reads bad =
     absurd (bad (subst OfGrammar (given_once _ _ text bytes told whole.ends whole.gives (gives_read c bytes reads)) good))
 
-pub usage_exactly : (c : Call) (status : Status) → Says c status → UsageExactly c status
+usage_exactly : (c : Call) (status : Status) → Says c status → UsageExactly c status
 usage_exactly c Usage says = (λ _. says.not_asked, λ _. refl)
 usage_exactly c Done says = let asked = says.asked in (λ e. cc, λ e. cc)
 usage_exactly c Malformed says = let asked = says.asked in (λ e. cc, λ e. cc)
@@ -65,7 +65,7 @@ usage_exactly c Illegal says = absurd says
 usage_exactly c Limit says = absurd says
 usage_exactly c SpawnFault says = absurd says
 
-pub malformed_exactly : (c : Call) (status : Status) → Says c status → MalformedExactly c status
+malformed_exactly : (c : Call) (status : Status) → Says c status → MalformedExactly c status
 malformed_exactly c Done says = λ _ _ _ told bytes reads bad. let prints = says.prints.2 in not_bad _ c says.prints.0 bytes prints.reads prints.runs.of_grammar told reads bad
 malformed_exactly c Usage says = λ asked _ _ _ _ _ _. let not_asked = says.not_asked in cc
 malformed_exactly c Malformed says = λ _ _ _ _ _ _ _. refl
@@ -76,7 +76,7 @@ malformed_exactly c Illegal says = absurd says
 malformed_exactly c Limit says = absurd says
 malformed_exactly c SpawnFault says = absurd says
 
-pub done_unless : (c : Call) (status : Status) → Says c status → DoneUnless c status
+done_unless : (c : Call) (status : Status) → Says c status → DoneUnless c status
 done_unless c Done says = λ _ _ _. anyway c.source.left (λ _ _. refl)
 done_unless c Usage says = λ asked _ _. let not_asked = says.not_asked in cc
 done_unless c Malformed says = λ _ _ _. bad_read _ c says.reads.0 says.reads.1 says.reads.2
@@ -86,3 +86,11 @@ done_unless c NoMemory says = λ _ _ memory. absurd (memory refl)
 done_unless c Illegal says = absurd says
 done_unless c Limit says = absurd says
 done_unless c SpawnFault says = absurd says
+
+pub answers : (c : Call) (status : Status) → Says c status → Answers c status
+answers c status says = record {
+  says = says;
+  usage = usage_exactly c status says;
+  malformed = malformed_exactly c status says;
+  done = done_unless c status says;
+}

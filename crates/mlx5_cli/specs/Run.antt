@@ -118,6 +118,14 @@ abbrev pub DoneUnless : Call → Status → Type 0
 DoneUnless c status = asks_for_run c.words ≡ true → HasNoFault c → status ≢ NoMemory
     → IfSome c.source.left (λ input. OfGrammar input → status ≡ Done)
 
--- unless a write failed, the line was written to the error sink
-abbrev pub Tells : SinkState → SinkState → List ℕ → Type 0
-Tells old new line = (¬ Rose old.faults new.faults) → Appends old.written new.written line
+-- what a call's status says, and when it comes
+pub record Answers (c : Call) (status : Status) : Type 0 where
+  pub says : Says c status
+  pub usage : UsageExactly c status
+  pub malformed : MalformedExactly c status
+  pub done : DoneUnless c status
+
+-- no more than the line went to the error sink, and the whole of it unless a write failed
+pub record Tells (old new : SinkState) (line : List ℕ) : Type 0 where
+  pub part : WritesPart old new line
+  pub whole : (¬ Rose old.faults new.faults) → Appends old.written new.written line

@@ -9,7 +9,7 @@ abbrev pub WritesPart : SinkState → SinkState → List ℕ → Type 0
 WritesPart old new text = (n : ℕ) × Appends old.written new.written (take n text)
 
 pub record WritesAll {T E : Type 0} (old new : SinkState) (text : List ℕ) (result : Result T E) : Type 0 where
-  pub all : OnOk result (Appends old.written new.written text)
-  pub part : OnErr result (WritesPart old new text)
+  pub part : WritesPart old new text
+  pub whole : OnOk result (Appends old.written new.written text)
   pub fails : OnErr result (Rose old.faults new.faults)
   pub never_falls : old.faults ≤ new.faults

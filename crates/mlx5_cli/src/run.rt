@@ -1,7 +1,7 @@
 //! The commands, over a source and two sinks.
 ghost use Rattle.std.specs.Prelude.{◌≡◌, ◌≢◌, ◌↔◌, IfErr, false, map, string_bytes};
 ghost use Rattle.mlx5_cli.specs.Status.{line_of};
-ghost use Rattle.mlx5_cli.specs.Run.{asks_for_run as asks, call, Says, status_of, UsageExactly, MalformedExactly, DoneUnless, Tells};
+ghost use Rattle.mlx5_cli.specs.Run.{asks_for_run as asks, call, Says, status_of, Answers, Tells};
 
 use crate::history::{Refusal, history_of};
 use crate::reading::{ReadError, read_all};
@@ -52,22 +52,25 @@ pub fn run_plain<S: Source, K: Sink, E: Sink>(
     out: &mut K,
     err: &mut E,
 ) -> Status
-    ensures says { Says (call words.now (S.state source.old) (S.state source.new) (K.state out.old) (K.state out.new)) result }
-
-    ensures usage { UsageExactly (call words.now (S.state source.old) (S.state source.new) (K.state out.old) (K.state out.new)) result }
-    ensures malformed { MalformedExactly (call words.now (S.state source.old) (S.state source.new) (K.state out.old) (K.state out.new)) result }
-    ensures done { DoneUnless (call words.now (S.state source.old) (S.state source.new) (K.state out.old) (K.state out.new)) result }
-
+    ensures answers { Answers (call words.now (S.state source.old) (S.state source.new)
+        (K.state out.old) (K.state out.new)) result }
     ensures quiet { result ≡ Status.Done → E.state err.new ≡ E.state err.old }
     ensures told { Tells (E.state err.old) (E.state err.new) (line_of result) }
 {
     match printed(alloc, words, source, out) {
         Ok(()) => Status::Done,
         Err(status) => {
-            let _ = write_all(err, status.line().as_bytes());
+            say(err, status);
             status
         }
     }
+}
+
+/// Writes the line of a status to `err`. A failed write ends the line there and is not told.
+pub fn say<E: Sink>(err: &mut E, status: Status)
+    ensures { Tells (E.state err.old) (E.state err.new) (line_of status) }
+{
+    let _ = write_all(err, status.line().as_bytes());
 }
 
 /// Reads, runs and writes, or stops with the status that ends the command.
@@ -77,7 +80,8 @@ fn printed<S: Source, K: Sink>(
     source: &mut S,
     out: &mut K,
 ) -> Result<(), Status>
-    ensures says { Says (call words.now (S.state source.old) (S.state source.new) (K.state out.old) (K.state out.new)) (status_of result) }
+    ensures says { Says (call words.now (S.state source.old) (S.state source.new)
+        (K.state out.old) (K.state out.new)) (status_of result) }
     ensures stops { IfErr result (λ status. status ≢ Status.Done) }
 {
     if !asks_for_run(words) {
