@@ -1,10 +1,10 @@
 -- What the statuses say, read from what was given.
-use Rattle.std.proofs.Common.{ℕ, ◌≡◌, ◌≢◌, ◌+◌, ◌≤◌, ◌⊎◌, inl, inr, List, ◌++◌, length, Option, None, Some, IfSome, IsSome, length-append, subst, sym, ap, ◌∙◌, append-nil, arith, refl}
+use Rattle.std.proofs.Common.{ℕ, ◌≡◌, ◌+◌, ◌⊎◌, inl, inr, List, ◌++◌, length, Option, None, Some, IfSome, IsSome, length-append, subst, sym, ap, ◌∙◌, append-nil, arith, refl}
 use Rattle.std.specs.Io.KnownBytes.{Consumes, IsAtEnd}
 use Rattle.mlx5_cli.specs.declared.reading.TheConstants.{TEXT_LIMIT}
 use Rattle.mlx5_cli.specs.declared.status.Status.{Status}
 use Rattle.mlx5_cli.specs.declared.status.Status.TheVariants.{Done, Illegal, Usage, Malformed, Limit, ReadFault, WriteFault, SpawnFault, NoMemory}
-use Rattle.mlx5_cli.specs.Reading.{ReadsWhole, ReadsTooMuch}
+use Rattle.mlx5_cli.specs.Reading.{ReadsWhole}
 use Rattle.mlx5_cli.specs.Grammar.{OfGrammar}
 use Rattle.mlx5_cli.specs.Run.{Call, Says, ReadsText, UsageExactly, MalformedExactly, DoneUnless, Answers}
 use Rattle.mlx5_cli.proofs.GrammarLemmas.{length-of_grammar}

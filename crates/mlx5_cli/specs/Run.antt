@@ -1,9 +1,8 @@
 -- What a call of `run_plain` was given, what it left, and what its status says of both.
-use Rattle.std.specs.Prelude.{String, map, string_bytes, ℕ, ◌≡◌, ◌≢◌, ◌+◌, ◌⊎◌, ◌↔◌, Bool, true, false, List, [], ◌∷◌, Option, Result, Ok, Err, IfSome, IsSome, codes}
+use Rattle.std.specs.Prelude.{String, map, string_bytes, ℕ, ◌≡◌, ◌≢◌, ◌⊎◌, ◌↔◌, Bool, true, false, List, [], ◌∷◌, Result, Ok, Err, IfSome, IsSome, codes}
 use Rattle.std.specs.Str.{bytes_eq}
 use Rattle.std.specs.declared.alloc.Global.{Global}
 use Rattle.std.specs.Io.KnownBytes.{Appends}
-use Rattle.mlx5_cli.specs.declared.reading.TheConstants.{TEXT_LIMIT}
 use Rattle.mlx5_cli.specs.declared.status.Status.{Status}
 use Rattle.mlx5_cli.specs.declared.status.Status.TheVariants.{Done, Illegal, Usage, Malformed, Limit, ReadFault, WriteFault, SpawnFault, NoMemory}
 use Rattle.mlx5_cli.specs.Count.{Rose}

@@ -1,5 +1,5 @@
 -- What writing a whole text does to a sink.
-use Rattle.std.specs.Prelude.{ℕ, ◌≡◌, ◌≤◌, List, [], take, Result, OnOk, OnErr}
+use Rattle.std.specs.Prelude.{ℕ, ◌≤◌, List, take, Result, OnOk, OnErr}
 use Rattle.std.specs.Io.KnownBytes.{Appends}
 use Rattle.mlx5_cli.specs.Count.{Rose}
 use Rattle.mlx5_cli.specs.Sink.{SinkState}

@@ -10,6 +10,8 @@ mod sink;
 mod source;
 mod status;
 mod streams;
+#[cfg(test)]
+mod tests;
 mod text_sink;
 mod text_source;
 mod words;
@@ -26,7 +28,13 @@ fn main(rt: HostRuntime) -> ExitCode {
     let mut output = StreamSink::new(rt.stdout());
     let mut errors = StreamSink::new(rt.stderr());
     let status = match words_after_name(&rt) {
-        Ok(words) => run_plain(rt.alloc(), words.as_slice(), &mut input, &mut output, &mut errors),
+        Ok(words) => run_plain(
+            rt.alloc(),
+            words.as_slice(),
+            &mut input,
+            &mut output,
+            &mut errors,
+        ),
         Err(_) => {
             say(&mut errors, Status::NoMemory);
             Status::NoMemory

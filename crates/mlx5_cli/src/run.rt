@@ -1,5 +1,5 @@
 //! The commands, over a source and two sinks.
-ghost use Rattle.std.specs.Prelude.{◌≡◌, ◌≢◌, ◌↔◌, IfErr, false, map, string_bytes};
+ghost use Rattle.std.specs.Prelude.{◌≡◌, ◌≢◌, IfErr, map, string_bytes};
 ghost use Rattle.mlx5_cli.specs.Status.{line_of};
 ghost use Rattle.mlx5_cli.specs.Run.{asks_for_run as asks, call, Says, status_of, Answers, Tells};
 
@@ -45,6 +45,7 @@ impl From<Refusal> for Status {
 /// The one form is `run`: it reads a scenario from `source` and writes the history of its run to
 /// `out`, which gets no byte before the whole text is made. The line of any other status goes to
 /// `err`; a failed write there changes no status.
+#[tactic(auto, using(crate::proofs::Exactly::answers))]
 pub fn run_plain<S: Source, K: Sink, E: Sink>(
     alloc: Global,
     words: &[String],

@@ -50,7 +50,9 @@ impl<'a> Sink for TextSink<'a> {
         let call = self.calls;
         self.calls = call.saturating_add(1);
         let count = self.step.min(piece.len());
-        if self.failing.contains(&call) || self.written.extend_from_slice(&piece[..count]).is_err() {
+        if self.failing.contains(&call)
+            || self.written.extend_from_slice(&piece[..count]).is_err()
+        {
             self.faults = self.faults.saturating_add(1);
             return Err(Failed);
         }

@@ -1,4 +1,4 @@
-use Rattle.std.proofs.Common.{arith, rules, length, take, subst, length-drop, length-take}
+use Rattle.std.proofs.Common.{arith, rules, subst}
 use Rattle.std.specs.Io.KnownBytes.{Appends}
 use Rattle.std.proofs.KnownBytes.{Appends-trans}
 use Rattle.mlx5_cli.proofs.Pieces.{take-rest}
