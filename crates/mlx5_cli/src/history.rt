@@ -11,6 +11,7 @@ pub enum Refusal {
     /// The text is outside the grammar that is built so far.
     #[error("not built")]
     NotBuilt,
+    /// There was no memory for the history.
     #[error("no memory")]
     NoMemory,
 }

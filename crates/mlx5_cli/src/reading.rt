@@ -10,6 +10,7 @@ use thiserror::Error;
 /// The most bytes that a text may have.
 pub const TEXT_LIMIT: usize = 4_194_304;
 
+/// The most bytes that one read asks for.
 const PIECE: usize = 4096;
 
 /// Why a text was not read.
@@ -21,6 +22,7 @@ pub enum ReadError {
     /// There are more bytes than a text may have. One of them too many was read.
     #[error("the text is longer than 4,194,304 bytes")]
     TooLong,
+    /// There was no memory for the text.
     #[error("no memory")]
     NoMemory,
 }
@@ -31,7 +33,7 @@ impl From<Failed> for ReadError {
 
     ghost from_gives = { λ _ e. e ≡ Failed };
 
-    fn from(_failed: crate::failed::Failed) -> ReadError {
+    fn from(_failed: Failed) -> ReadError {
         ReadError::Failed
     }
 }
@@ -47,7 +49,8 @@ impl From<AllocError> for ReadError {
     }
 }
 
-/// Reads all bytes that are left. It never asks for more than one byte past `TEXT_LIMIT`.
+/// Reads all bytes that are left, and never asks for more than one past `TEXT_LIMIT`. What was read
+/// before an error is lost.
 pub fn read_all<S: Source>(alloc: Global, source: &mut S) -> Result<Vec<u8>, ReadError>
     ensures whole { IfOk result (λ text. ReadsWhole (S.state source.old) (S.state source.new) text.items) }
     ensures stops { IfErr result (StopsReading (S.state source.old) (S.state source.new)) }

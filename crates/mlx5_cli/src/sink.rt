@@ -9,6 +9,7 @@ pub trait Sink {
     ghost state: { Self → SinkState };
 
     /// Writes a front part of `piece`, and gives its length, which is 0 only for an empty piece.
+    /// `Failed` comes only where the count of faults rose, and then nothing was written.
     fn write(&mut self, piece: &[u8]) -> Result<usize, Failed>
         ensures { Writes (state self.old) (state self.new) piece.now result };
 }

@@ -1,6 +1,7 @@
 //! The standard streams of the process as a source and as sinks.
 //!
 //! They tell no bytes. Nothing is kept in a buffer: each call is one call of the system.
+ghost use Rattle.std.specs.Prelude.{◌≡◌};
 
 use crate::failed::Failed;
 use crate::sink::Sink;
@@ -10,25 +11,35 @@ use std::io::{Read, Write};
 /// A source over a reader, as standard input.
 #[derive(Drop)]
 pub struct StreamSource<R> {
-    reader: R,
-    faults: u64,
+    pub reader: R,
+    /// The count of faults.
+    pub faults: u64,
 }
 
 /// A sink over a writer, as standard output and standard error.
 #[derive(Drop)]
 pub struct StreamSink<W> {
-    writer: W,
-    faults: u64,
+    pub writer: W,
+    /// The count of faults.
+    pub faults: u64,
 }
 
 impl<R> StreamSource<R> {
-    pub fn new(reader: R) -> Self {
+    /// A source that has had no fault.
+    pub fn new(reader: R) -> Self
+        ensures reader { result.reader ≡ reader }
+        ensures faults { result.faults ≡ 0 }
+    {
         StreamSource { reader, faults: 0 }
     }
 }
 
 impl<W> StreamSink<W> {
-    pub fn new(writer: W) -> Self {
+    /// A sink that has had no fault.
+    pub fn new(writer: W) -> Self
+        ensures writer { result.writer ≡ writer }
+        ensures faults { result.faults ≡ 0 }
+    {
         StreamSink { writer, faults: 0 }
     }
 }

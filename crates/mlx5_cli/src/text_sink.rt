@@ -1,5 +1,6 @@
 //! A sink in memory.
-ghost use Rattle.std.specs.Prelude.{◌≡◌, ◌<◌, ◌-◌, ◌^◌, []};
+ghost use Rattle.std.specs.Prelude.{◌≡◌, ◌<◌, ◌-◌, ◌^◌, [], IsErr, Contains};
+ghost use Rattle.mlx5_cli.specs.Sink.{Writes};
 
 use crate::failed::Failed;
 use crate::sink::Sink;
@@ -46,7 +47,11 @@ impl<'a> Sink for TextSink<'a> {
 
     ghost state = { λ s. record { written = Some s.written.items; faults = s.faults } };
 
-    fn write(&mut self, piece: &[u8]) -> Result<usize, Failed> {
+    fn write(&mut self, piece: &[u8]) -> Result<usize, Failed>
+        ensures writes { Writes (record { written = Some self.old.written.items; faults = self.old.faults })
+            (record { written = Some self.new.written.items; faults = self.new.faults }) piece.now result }
+        ensures listed { Contains self.old.failing.now self.old.calls → IsErr result }
+    {
         let call = self.calls;
         self.calls = call.saturating_add(1);
         let count = self.step.min(piece.len());

@@ -1,5 +1,5 @@
 //! A source in memory.
-ghost use Rattle.std.specs.Prelude.{◌≡◌, ◌<◌, ◌-◌, ◌^◌, [], IsErr, Contains};
+ghost use Rattle.std.specs.Prelude.{◌≡◌, ◌↔◌, ◌<◌, ◌-◌, ◌^◌, [], IsErr, Contains};
 ghost use Rattle.mlx5_cli.specs.Source.{Reads};
 
 use crate::failed::Failed;
@@ -45,7 +45,11 @@ impl<'a> Source for TextSource<'a> {
 
     ghost state = { λ s. record { left = Some s.rest.now; faults = s.faults } };
 
-    fn read(&mut self, buf: &mut [u8]) -> Result<usize, Failed> {
+    fn read(&mut self, buf: &mut [u8]) -> Result<usize, Failed>
+        ensures reads { Reads (record { left = Some self.old.rest.now; faults = self.old.faults })
+            (record { left = Some self.new.rest.now; faults = self.new.faults }) buf.new result }
+        ensures listed { IsErr result ↔ Contains self.old.failing.now self.old.calls }
+    {
         let call = self.calls;
         self.calls = call.saturating_add(1);
         if self.failing.contains(&call) {
