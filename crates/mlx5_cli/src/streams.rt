@@ -1,6 +1,6 @@
 //! The standard streams of the process as a source and as sinks.
 //!
-//! They tell no bytes. Nothing is kept in a buffer: each call is one call of the system.
+//! Those tell no bytes, and keep none in a buffer: each call is one call of the system.
 ghost use Rattle.std.specs.Prelude.{◌≡◌};
 
 use crate::failed::Failed;
@@ -8,7 +8,7 @@ use crate::sink::Sink;
 use crate::source::Source;
 use std::io::{Read, Write};
 
-/// A source over a reader, as standard input.
+/// A source over a reader, as standard input. It tells the bytes that the reader tells.
 #[derive(Drop)]
 pub struct StreamSource<R> {
     pub reader: R,
@@ -16,7 +16,8 @@ pub struct StreamSource<R> {
     pub faults: u64,
 }
 
-/// A sink over a writer, as standard output and standard error.
+/// A sink over a writer, as standard output and standard error. It tells the bytes that the writer
+/// tells.
 #[derive(Drop)]
 pub struct StreamSink<W> {
     pub writer: W,
@@ -45,9 +46,7 @@ impl<W> StreamSink<W> {
 }
 
 impl<R: Read> Source for StreamSource<R> {
-    ghost use Rattle.std.specs.Prelude.{None};
-
-    ghost state = { λ s. record { left = None; faults = s.faults } };
+    ghost state = { λ s. record { left = R.remaining s.reader; faults = s.faults } };
 
     fn read(&mut self, buf: &mut [u8]) -> Result<usize, Failed> {
         match self.reader.read(buf) {
@@ -61,9 +60,7 @@ impl<R: Read> Source for StreamSource<R> {
 }
 
 impl<W: Write> Sink for StreamSink<W> {
-    ghost use Rattle.std.specs.Prelude.{None};
-
-    ghost state = { λ s. record { written = None; faults = s.faults } };
+    ghost state = { λ s. record { written = W.contents s.writer; faults = s.faults } };
 
     fn write(&mut self, piece: &[u8]) -> Result<usize, Failed> {
         match self.writer.write(piece) {
