@@ -17,7 +17,7 @@ judge() {
     fi
 }
 
-# What a command says on standard error, and its status.
+# The status of a command, and what it says on standard error.
 said() {
     local errors
     errors=$("$@" 2>&1 >/dev/null)
@@ -25,7 +25,15 @@ said() {
 }
 
 into_full_device() { "$mlx5" run </dev/null >/dev/full; }
-into_closed_pipe() { { sleep 0.2; "$mlx5" run </dev/null; } > >(exec sleep 0); }
+
+# Into a pipe whose reader has ended.
+into_closed_pipe() {
+    local pipe
+    exec {pipe}> >(:)
+    wait $!
+    "$mlx5" run </dev/null >&"$pipe"
+}
+
 from_folder() { "$mlx5" run <"$PWD"; }
 from_elsewhere() { (cd / && "$mlx5" run </dev/null); }
 of_text() { printf '%s' "$1" | "$mlx5" run; }
@@ -40,8 +48,8 @@ judge 'a wrong word' "$(said "$mlx5" walk)" '2 mlx5: usage'
 judge 'a word that is no text' "$(said "$mlx5" $'\xff')" '2 mlx5: usage'
 judge 'a text outside the grammar' "$(said of_text x)" '3 mlx5: line 0: not built'
 judge 'a folder as input' "$(said from_folder)" '5 mlx5: read fault'
-judge 'a full device' "$(into_full_device 2>&1; echo $?)" $'mlx5: write fault\n6'
-judge 'a closed pipe' "$( (into_closed_pipe; echo $? >&2) 2>&1)" $'mlx5: write fault\n6'
+judge 'a full device' "$(said into_full_device)" '6 mlx5: write fault'
+judge 'a closed pipe' "$(said into_closed_pipe)" '6 mlx5: write fault'
 judge 'help' "$(said "$mlx5" --help)" '0 '
 judge 'version' "$("$mlx5" --version)" 'mlx5 0.1.0'
 
