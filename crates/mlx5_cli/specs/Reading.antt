@@ -1,0 +1,25 @@
+-- What reading a whole text does to a source.
+use Rattle.std.specs.Prelude.{ℕ, ◌≡◌, ◌+◌, ◌≤◌, List, length}
+use Rattle.std.specs.Io.KnownBytes.{Consumes, IsAtEnd}
+use Rattle.mlx5_cli.specs.declared.reading.TheConstants.{TEXT_LIMIT}
+use Rattle.mlx5_cli.specs.declared.reading.ReadError.{ReadError}
+use Rattle.mlx5_cli.specs.declared.reading.ReadError.TheVariants.{Failed, TooLong, NoMemory}
+use Rattle.mlx5_cli.specs.Count.{Rose}
+use Rattle.mlx5_cli.specs.Source.{SourceState}
+
+-- this text was all that was left
+pub record ReadsWhole (old new : SourceState) (text : List ℕ) : Type 0 where
+  pub gives : Consumes old.left new.left text
+  pub ends : IsAtEnd new.left
+  pub within : length text ≤ TEXT_LIMIT
+
+-- these were the first bytes of what was left, one more than a text may have
+pub record ReadsTooMuch (old new : SourceState) (bytes : List ℕ) : Type 0 where
+  pub gives : Consumes old.left new.left bytes
+  pub over : length bytes ≡ TEXT_LIMIT + 1
+
+-- why a text was not read
+abbrev pub StopsReading : SourceState → SourceState → ReadError → Type 0
+StopsReading old new Failed = Rose old.faults new.faults
+StopsReading old new TooLong = (bytes : List ℕ) × ReadsTooMuch old new bytes
+StopsReading old new NoMemory = Unit {0}

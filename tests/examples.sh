@@ -1,0 +1,18 @@
+#!/usr/bin/env bash
+# Each examples/NAME.scenario has the history examples/NAME.history.
+set -uo pipefail
+shopt -s nullglob
+cd -- "$(dirname -- "${BASH_SOURCE[0]}")/.."
+
+passed=0
+failed=0
+for scenario in examples/*.scenario; do
+    if ./mlx5 run <"$scenario" | cmp - "${scenario%.scenario}.history"; then
+        passed=$((passed + 1))
+    else
+        failed=$((failed + 1))
+        printf '%s: another history\n' "$scenario"
+    fi
+done
+printf '%d passed, %d failed\n' "$passed" "$failed"
+[[ $failed -eq 0 ]]

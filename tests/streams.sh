@@ -1,0 +1,57 @@
+#!/usr/bin/env bash
+# The launcher and the program on real streams: statuses, and lines on standard error.
+set -uo pipefail
+cd -- "$(dirname -- "${BASH_SOURCE[0]}")/.."
+
+mlx5=$PWD/mlx5
+passed=0
+failed=0
+
+# Judges a case by the status and the standard error that it had and was to have.
+judge() {
+    if [[ $2 == "$3" ]]; then
+        passed=$((passed + 1))
+    else
+        failed=$((failed + 1))
+        printf '%s: %q in place of %q\n' "$1" "$2" "$3"
+    fi
+}
+
+# The status of a command, and what it says on standard error.
+said() {
+    local errors
+    errors=$("$@" 2>&1 >/dev/null)
+    printf '%d %s' $? "$errors"
+}
+
+into_full_device() { "$mlx5" run </dev/null >/dev/full; }
+
+# Into a pipe whose reader has ended.
+into_closed_pipe() {
+    local pipe
+    exec {pipe}> >(:)
+    wait $!
+    "$mlx5" run </dev/null >&"$pipe"
+}
+
+from_folder() { "$mlx5" run <"$PWD"; }
+from_elsewhere() { (cd / && "$mlx5" run </dev/null); }
+of_text() { printf '%s' "$1" | "$mlx5" run; }
+
+# The first run builds the program.
+"$mlx5" run </dev/null >/dev/null
+
+judge 'the empty text' "$(said "$mlx5" run </dev/null)" '0 '
+judge 'another folder' "$(said from_elsewhere)" '0 '
+judge 'no words' "$(said "$mlx5")" '2 mlx5: usage'
+judge 'a wrong word' "$(said "$mlx5" walk)" '2 mlx5: usage'
+judge 'a word that is no text' "$(said "$mlx5" $'\xff')" '2 mlx5: usage'
+judge 'a text outside the grammar' "$(said of_text x)" '3 mlx5: line 0: not built'
+judge 'a folder as input' "$(said from_folder)" '5 mlx5: read fault'
+judge 'a full device' "$(said into_full_device)" '6 mlx5: write fault'
+judge 'a closed pipe' "$(said into_closed_pipe)" '6 mlx5: write fault'
+judge 'help' "$(said "$mlx5" --help)" '0 '
+judge 'version' "$("$mlx5" --version)" 'mlx5 0.1.0'
+
+printf '%d passed, %d failed\n' "$passed" "$failed"
+[[ $failed -eq 0 ]]
