@@ -3,4 +3,4 @@
 
 mod scenario;
 
-pub use scenario::{Plan, PlanItem, ScenarioParts};
+pub use scenario::{Plan, PlanItem, Scenario, ScenarioParts};

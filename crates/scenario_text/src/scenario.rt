@@ -1,6 +1,9 @@
 //! What a scenario says.
+ghost use Rattle.std.specs.Prelude.{◌≡◌};
+ghost use Rattle.scenario_text.specs.Grammar.{IsScenario};
 
-use verbs_model::{Call, Lines, Sequence};
+use std::marker::Model;
+use verbs_model::{Call, Declared, Lines, Sequence};
 
 /// An item of a schedule: this actor's turns.
 #[derive(Clone, Copy, Debug, PartialEq, Eq)]
@@ -27,4 +30,50 @@ pub struct ScenarioParts {
     /// The calls of each thread, in the order of the threads' names.
     pub programs: Sequence<Sequence<Call>>,
     pub plan: Plan,
+}
+
+/// A scenario of the grammar.
+#[derive(Debug, Drop)]
+pub struct Scenario {
+    declared: Declared,
+    programs: Sequence<Sequence<Call>>,
+    plan: Plan,
+}
+
+impl Model for Scenario {
+    ghost use Rattle.scenario_text.specs.declared.scenario.ScenarioParts.{ScenarioParts};
+
+    ghost Value = { ScenarioParts };
+
+    ghost use Rattle.scenario_text.specs.Grammar.{IsScenario};
+
+    ghost view = { λ s. record { lines = s.declared; programs = s.programs; plan = s.plan } };
+
+    ghost invariant = { λ s. IsScenario (record { lines = s.declared; programs = s.programs; plan = s.plan }) };
+}
+
+impl Scenario {
+    /// The declared objects.
+    pub fn declared(&self) -> &Declared
+        ensures lines { result.now ≡ self.now.lines }
+        ensures scenario { IsScenario self.now }
+    {
+        &self.declared
+    }
+
+    /// The calls of each thread, in the order of the threads' names.
+    pub fn programs(&self) -> &[Sequence<Call>]
+        ensures programs { result.now ≡ self.now.programs }
+        ensures scenario { IsScenario self.now }
+    {
+        self.programs.as_slice()
+    }
+
+    /// Whose turn it is.
+    pub fn plan(&self) -> &Plan
+        ensures plan { result.now ≡ self.now.plan }
+        ensures scenario { IsScenario self.now }
+    {
+        &self.plan
+    }
 }

@@ -1,0 +1,4 @@
+pub mod Delivery
+pub mod Signature
+pub mod Entry
+pub mod Block

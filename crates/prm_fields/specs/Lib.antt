@@ -1,0 +1,5 @@
+pub mod Bits
+pub mod Layout
+pub mod Names
+pub mod Refusal
+pub mod Spelling

@@ -1,0 +1,14 @@
+pub mod Families
+pub mod Dues
+pub mod Owing
+pub mod Entries
+pub mod Queueing
+pub mod Adapting
+pub mod Threading
+pub mod Settling
+pub mod Turning
+pub mod Histories
+pub mod Settings
+pub mod Starting
+pub mod Spelled
+pub mod Worlds

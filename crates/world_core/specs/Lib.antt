@@ -1,0 +1,9 @@
+pub mod View
+pub mod Moves
+pub mod Decoding
+pub mod Machine
+pub mod Sound
+pub mod Steps
+pub mod World
+pub mod Fresh
+pub mod WorldInside

@@ -1,0 +1,146 @@
+//! The world: the threads of a scenario and the adapter, one turn after another.
+ghost use Rattle.std.specs.Prelude.{◌≡◌, ◌+◌, ◌<◌, ◌≤◌, ◌++◌, ◌∷◌, [], length, replicate, IfOk, IfSome, slice_get};
+ghost use Rattle.scenario_text.specs.Limits.{turn_count, turns_of as turns_of_plan};
+ghost use Rattle.world_core.specs.World.{IsRun, items_of_plan};
+
+use crate::copies::{copy_of_plan, copy_of_programs};
+use crate::fresh::{times, turns_of};
+use crate::run::Run;
+use crate::spelling::history_of;
+use crate::turn::Turn;
+use scenario_text::{Plan, PlanItem, Scenario};
+use std::alloc::{AllocError, Global};
+use std::marker::Model;
+use std::snapshot::Snapshot;
+use verbs_model::{Call, Entry, NoMemory, Sequence};
+
+/// The threads of a scenario and the adapter, between two turns.
+#[derive(Drop)]
+pub struct World {
+    scenario: Snapshot<Scenario>,
+    programs: Vec<Sequence<Call>>,
+    plan: Plan,
+    run: Run,
+    turns: Vec<Turn>,
+}
+
+impl Model for World {
+    ghost use Rattle.world_core.specs.World.{WorldView};
+
+    ghost Value = { WorldView };
+
+    ghost use Rattle.world_core.specs.WorldInside.{world_view, IsWorld};
+
+    ghost view = { world_view };
+
+    ghost invariant = { IsWorld };
+}
+
+/// What a run leaves.
+#[derive(Debug, Drop)]
+pub struct Outcome {
+    pub history: Sequence<Entry>,
+}
+
+impl World {
+    /// The world of a scenario before its first turn, with room for all that its turns make.
+    pub fn from_scenario(alloc: Global, scenario: &Scenario) -> Result<World, NoMemory>
+        ensures { IfOk result (λ w. w ≡ record { parts = scenario.now; turns = [] }) }
+    {
+        match World::reserved(alloc, scenario) {
+            Ok(world) => Ok(world),
+            Err(_) => Err(NoMemory),
+        }
+    }
+
+    fn reserved(alloc: Global, scenario: &Scenario) -> Result<World, AllocError>
+        ensures { IfOk result (λ w. w ≡ record { parts = scenario.now; turns = [] }) }
+    {
+        let programs = copy_of_programs(alloc, scenario.programs())?;
+        let plan = copy_of_plan(alloc, scenario.plan())?;
+        let run = Run::fresh(alloc, scenario.declared(), programs.len())?;
+        let turns = Vec::with_capacity(alloc, turns_of(scenario.plan()))?;
+        Ok(World {
+            scenario: Snapshot::of(scenario),
+            programs,
+            plan,
+            run,
+            turns,
+        })
+    }
+
+    /// A turn of the adapter, or of a thread of the scenario. It takes no memory; a turn of an actor to whom
+    /// nothing is due makes no entry.
+    pub fn turn(&mut self, actor: u8)
+        requires left { length self.old.turns < turn_count self.old.parts.plan }
+        requires actor { actor ≤ length self.old.parts.programs }
+        ensures { self.new ≡ record self.old { turns = self.old.turns ++ actor ∷ [] } }
+    {
+        let made = self
+            .run
+            .turn(&self.scenario, self.programs.as_slice(), actor);
+        self.turns.push_reserved(Turn { actor, made });
+    }
+
+    /// All turns of the scenario's plan. It takes no memory.
+    pub fn run_schedule(&mut self)
+        requires { self.old.turns ≡ [] }
+        ensures { self.new ≡ record self.old { turns = turns_of_plan self.old.parts.plan } }
+    {
+        for index in 0..self.planned_items() {
+            if let Some(item) = self.planned(index) {
+                self.turn_times(item.actor, times(item));
+            }
+        }
+    }
+
+    /// How many items the plan has.
+    fn planned_items(&self) -> usize
+        ensures { result ≡ length (items_of_plan self.now.parts.plan) }
+    {
+        match &self.plan {
+            Plan::Idle => 0,
+            Plan::Schedule(items) => items.len(),
+        }
+    }
+
+    /// The item of the plan at a place.
+    fn planned(&self, index: usize) -> Option<PlanItem>
+        ensures item { result ≡ slice_get (items_of_plan self.now.parts.plan) index }
+        ensures actor { IfSome result (λ i. i.actor ≤ length self.now.parts.programs) }
+    {
+        match &self.plan {
+            Plan::Idle => None,
+            Plan::Schedule(items) => items.as_slice().get(index).copied(),
+        }
+    }
+
+    /// So many turns of one actor.
+    fn turn_times(&mut self, actor: u8, count: u64)
+        requires left { length self.old.turns + count ≤ turn_count self.old.parts.plan }
+        requires actor { actor ≤ length self.old.parts.programs }
+        ensures { self.new ≡ record self.old { turns = self.old.turns ++ replicate count actor } }
+    {
+        for made in 0..count {
+            self.turn(actor);
+        }
+    }
+
+    /// The history that the turns made.
+    pub fn finish(self, alloc: Global) -> Result<Outcome, NoMemory>
+        ensures { IfOk result (λ o. IsRun self.parts.lines self.parts.programs self.turns o.history) }
+    {
+        let published = self.run.completions.published.as_slice();
+        match history_of(
+            alloc,
+            self.programs.as_slice(),
+            published,
+            self.turns.as_slice(),
+        ) {
+            Ok(history) => Ok(Outcome {
+                history: Sequence::from_vec(history),
+            }),
+            Err(_) => Err(NoMemory),
+        }
+    }
+}
