@@ -109,5 +109,5 @@ kept_range old new from count first width long inside kept apart =
 pub kept_joined : (old mid new : List ℕ) (first m next n : ℕ) → next ≡ first + m → KeepsOtherBits old mid first m → KeepsOtherBits mid new next n → KeepsOtherBits old new first (m + n)
 kept_joined old mid new first m next n place earlier later = record {
   before = λ k low. later.before k (omega arith) ∙ earlier.before k low;
-  after = λ k high. later.after k (omega arith) ∙ earlier.after k (omega arith)
+  after = λ k high. later.after k (omega arith) ∙ earlier.after k (omega arith);
 }
