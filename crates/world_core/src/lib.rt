@@ -15,3 +15,6 @@ mod turns;
 mod world;
 
 pub use world::{Outcome, World};
+
+#[cfg(test)]
+mod tests;
