@@ -35,6 +35,16 @@ pub struct CmdEntry {
 // The type of an entry of the command queue.
 const COMMAND: u8 = 7;
 
+// How many bytes of input and of output an entry holds itself; more lie in blocks.
+const HELD: u32 = 16;
+
+const LEAST_INPUT: u32 = 16;
+
+const LEAST_OUTPUT: u32 = 12;
+
+// The bytes that an entry holds and those of two blocks.
+const MOST: u32 = 1040;
+
 /// Makes the signature such that the exclusive-or of the whole entry is 0xff.
 pub fn sign_entry(bytes: &mut [u8; 64])
     ensures signed { exclusive_or_of bytes.new ≡ 255 }
@@ -101,9 +111,9 @@ fn parts_of(bytes: &[u8; 64]) -> CmdEntry
 
 /// The entry that the bytes spell.
 ///
-/// Its refusals come in the order in which `Delivery`'s rules for an entry are judged: the signature,
-/// the type, the reserved bits, the two lengths, and a pointer to input or output blocks where none
-/// is needed.
+/// Its refusals come in this order, which is this project's own: the signature, the type, the reserved
+/// bits, the input length, the output length, a pointer to input blocks where none is needed, and one
+/// to output blocks.
 pub fn decode_entry(bytes: &[u8; 64]) -> Result<CmdEntry, Delivery>
     ensures found { IfOk result (λ e. IsEntry e bytes.now) }
     ensures limits { IfOk result KeepsLimits }
@@ -120,16 +130,16 @@ pub fn decode_entry(bytes: &[u8; 64]) -> Result<CmdEntry, Delivery>
         return Err(Delivery::Reserved);
     }
     let entry = parts_of(bytes);
-    if entry.in_len < 16 || entry.in_len > 1040 {
+    if entry.in_len < LEAST_INPUT || entry.in_len > MOST {
         return Err(Delivery::InputLength);
     }
-    if entry.out_len < 12 || entry.out_len > 1040 {
+    if entry.out_len < LEAST_OUTPUT || entry.out_len > MOST {
         return Err(Delivery::OutputLength);
     }
-    if entry.in_len <= 16 && entry.in_ptr != 0 {
+    if entry.in_len <= HELD && entry.in_ptr != 0 {
         return Err(Delivery::InputPointer);
     }
-    if entry.out_len <= 16 && entry.out_ptr != 0 {
+    if entry.out_len <= HELD && entry.out_ptr != 0 {
         return Err(Delivery::OutputPointer);
     }
     Ok(entry)

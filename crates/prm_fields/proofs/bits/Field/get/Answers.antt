@@ -1,4 +1,3 @@
-use Rattle.std.proofs.Common.{◌<◌, ◌^◌}
 use Rattle.prm_fields.proofs.Values.{field_value-lt}
 use Rattle.prm_fields.proofs.bits.Field.get.Goals as goal
 
