@@ -7,7 +7,7 @@ use Rattle.mlx5_cli.specs.declared.status.Status.TheVariants.{Done, Illegal, Usa
 use Rattle.mlx5_cli.specs.Reading.{ReadsWhole}
 use Rattle.mlx5_cli.specs.Grammar.{OfGrammar}
 use Rattle.mlx5_cli.specs.Run.{Call, Says, ReadsText, UsageExactly, MalformedExactly, DoneUnless, Answers}
-use Rattle.mlx5_cli.proofs.GrammarLemmas.{length-of_grammar}
+use Rattle.mlx5_cli.proofs.GrammarLemmas.{length-of_grammar, of_grammar}
 
 -- a fact about a value that is told gives another
 given : {T : Type 0} {P Q : T → Type 0} (told : Option T) → ((x : T) → P x → Q x) → IfSome told P → IfSome told Q
@@ -66,11 +66,11 @@ usage_exactly c Limit says = absurd says
 usage_exactly c SpawnFault says = absurd says
 
 malformed_exactly : (c : Call) (status : Status) → Says c status → MalformedExactly c status
-malformed_exactly c Done says = λ _ _ _ told bytes reads bad. let prints = says.prints.2 in not_bad _ c says.prints.0 bytes prints.reads prints.runs.of_grammar told reads bad
+malformed_exactly c Done says = λ _ _ _ told bytes reads bad. let prints = says.prints.2 in not_bad _ c says.prints.0 bytes prints.reads (of_grammar prints.runs) told reads bad
 malformed_exactly c Usage says = λ asked _ _ _ _ _ _. let not_asked = says.not_asked in cc
 malformed_exactly c Malformed says = λ _ _ _ _ _ _ _. refl
 malformed_exactly c ReadFault says = λ _ not_read _ _ _ _ _. absurd (not_read refl)
-malformed_exactly c WriteFault says = λ _ _ _ told bytes reads bad. let prints = says.prints.2 in not_bad _ c says.prints.0 bytes prints.reads prints.runs.of_grammar told reads bad
+malformed_exactly c WriteFault says = λ _ _ _ told bytes reads bad. let prints = says.prints.2 in not_bad _ c says.prints.0 bytes prints.reads (of_grammar prints.runs) told reads bad
 malformed_exactly c NoMemory says = λ _ _ memory _ _ _ _. absurd (memory refl)
 malformed_exactly c Illegal says = absurd says
 malformed_exactly c Limit says = absurd says

@@ -1,3 +1,5 @@
 mod Exactly
+mod Entries
 mod GrammarLemmas
 mod Pieces
+mod Refusing

@@ -1,6 +1,8 @@
 -- The texts that spell a scenario.
-use Rattle.std.specs.Prelude.{ℕ, ◌≡◌, List, []}
+use Rattle.std.specs.Prelude.{ℕ, List}
+use Rattle.scenario_text.specs.declared.scenario.ScenarioParts.{ScenarioParts}
+use Rattle.scenario_text.specs.Grammar.{Spells}
 
--- the text is of the grammar that is built so far: the empty text
+-- the text is of the grammar that is built so far: it spells a scenario
 abbrev pub OfGrammar : List ℕ → Type 0
-OfGrammar text = text ≡ []
+OfGrammar text = (s : ScenarioParts) × Spells text s

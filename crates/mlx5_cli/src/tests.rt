@@ -15,11 +15,16 @@ use std::io::{Read, Write};
 use std::process::Abort;
 use std::test::Fail;
 
-const HISTORY: &str = "mlx5 history\nend 0\n";
+const NO_ENTRIES: &str = "mlx5 history\nend 0\n";
 
 const SCENARIO: &[u8] = b"eq e 1\npd p\ncq c 2 2 e 0\nqp q p c c 2 rq:0 1 0\nconnect q q\n\
 thread a\npost q\n+ 7 nop -\n+ 8 nop c\nend\nthread b\npoll c 1\ndrain c 1\nend\n\
 schedule b a dev*3 b*4\n";
+
+const HISTORY: &str =
+    "mlx5 history\neq e 1\npd p\ncq c 2 2 e 0\nqp q p c c 2 rq:0 1 0\nconnect q q\n\
+b poll c 1 empty\na post q.s + 7 nop - + 8 nop c\ndev fetch q.s 1\ndev fetch q.s 2\n\
+dev publish c q.s:8:0:nop:0:-:-\nb poll c 1 q.s:8:0:nop:0:-:-\nb retire q.s 2\nb ack c 1\nend 8\n";
 
 /// What a command is to answer, to write and to say.
 #[derive(Clone, Copy)]
@@ -28,6 +33,12 @@ struct Answer {
     output: &'static str,
     line: &'static str,
 }
+
+const EMPTY_PRINTED: Answer = Answer {
+    status: Status::Done,
+    output: NO_ENTRIES,
+    line: "",
+};
 
 const PRINTED: Answer = Answer {
     status: Status::Done,
@@ -99,8 +110,21 @@ fn the_empty_text(rt: HostRuntime) -> Result<(), Fail> {
         let mut source = TextSource::new(b"");
         let mut out = TextSink::new(rt.alloc());
         out.step = step;
-        expect(&rt, &["run"], &mut source, &mut out, &PRINTED)?;
+        expect(&rt, &["run"], &mut source, &mut out, &EMPTY_PRINTED)?;
         assert_eq!(rt; source.calls, 1);
+    }
+    Ok(())
+}
+
+#[test]
+fn the_first_scenario(rt: HostRuntime) -> Result<(), Fail> {
+    for step in [1, 2, 64, 4096] {
+        let mut source = TextSource::new(SCENARIO);
+        source.step = step;
+        let mut out = TextSink::new(rt.alloc());
+        out.step = step;
+        expect(&rt, &["run"], &mut source, &mut out, &PRINTED)?;
+        assert_eq!(rt; source.rest.len(), 0);
     }
     Ok(())
 }
@@ -109,13 +133,13 @@ fn the_empty_text(rt: HostRuntime) -> Result<(), Fail> {
 fn a_failing_write(rt: HostRuntime) -> Result<(), Fail> {
     for call in 0..HISTORY.len() {
         let failing = [call as u64];
-        let mut source = TextSource::new(b"");
+        let mut source = TextSource::new(SCENARIO);
         let mut out = TextSink::new(rt.alloc());
         out.step = 1;
         out.failing = &failing;
         let answer = Answer {
             status: Status::WriteFault,
-            output: &HISTORY[..call],
+            output: HISTORY.get(..call).unwrap_or("none"),
             line: "mlx5: write fault\n",
         };
         expect(&rt, &["run"], &mut source, &mut out, &answer)?;
@@ -139,7 +163,7 @@ fn a_failing_read(rt: HostRuntime) -> Result<(), Fail> {
 
 #[test]
 fn texts_outside_the_grammar(rt: HostRuntime) -> Result<(), Fail> {
-    let texts: [&[u8]; 4] = [b"\n", b"#\n", b"\xff", SCENARIO];
+    let texts: [&[u8]; 5] = [b"\n", b"#\n", b"\xff", &SCENARIO[..6], &SCENARIO[1..]];
     for text in texts {
         let mut source = TextSource::new(text);
         source.step = 1;

@@ -40,9 +40,12 @@ given_names d =
     map (λ (l : EqLine). l.name) d.eqs ++ map (λ (l : PdLine). l.name) d.pds ++ map (λ (l : CqLine). l.name) d.cqs ++ map (λ (l : QpLine). l.name) d.qps
     ++ d.threads
 
--- the names that are taken from the start, and those given
+-- these names, after those that are taken from the start
+abbrev pub with_taken : List (List ℕ) → List (List ℕ)
+with_taken names = codes "dev" ∷ codes "ctl" ∷ codes "main" ∷ names
+
 abbrev pub all_names : Lines → List (List ℕ)
-all_names d = codes "dev" ∷ codes "ctl" ∷ codes "main" ∷ given_names d
+all_names d = with_taken (given_names d)
 
 abbrev pub IsName : List ℕ → Type 0
 IsName name = IsTrue (is_name name)

@@ -30,25 +30,39 @@ cq_name d n = text_at (λ (l : CqLine). l.name) d.cqs n
 abbrev pub qp_name : Lines → ℕ → List ℕ
 qp_name d n = text_at (λ (l : QpLine). l.name) d.qps (n - FIRST_QP)
 
-abbrev pub eq_text : EqLine → List ℕ
-eq_text l = line (codes "eq" ∷ l.name ∷ decimal l.log ∷ [])
+abbrev pub eq_fields : EqLine → List (List ℕ)
+eq_fields l = codes "eq" ∷ l.name ∷ decimal l.log ∷ []
 
-abbrev pub pd_text : PdLine → List ℕ
-pd_text l = line (codes "pd" ∷ l.name ∷ [])
+abbrev pub pd_fields : PdLine → List (List ℕ)
+pd_fields l = codes "pd" ∷ l.name ∷ []
 
-abbrev pub cq_text : Lines → CqLine → List ℕ
-cq_text d l = line (codes "cq" ∷ l.name ∷ decimal l.log ∷ decimal l.ceiling ∷ eq_name d l.eq ∷ decimal l.start ∷ [])
+abbrev pub cq_fields : Lines → CqLine → List (List ℕ)
+cq_fields d l = codes "cq" ∷ l.name ∷ decimal l.log ∷ decimal l.ceiling ∷ eq_name d l.eq ∷ decimal l.start ∷ []
 
-abbrev pub qp_text : Lines → QpLine → List ℕ
-qp_text d l =
-    line
-    (codes "qp" ∷ l.name ∷ pd_name d l.pd ∷ cq_name d l.send_cq ∷ cq_name d l.recv_cq ∷ decimal l.send_log ∷ (codes "rq:" ++ decimal l.recv_log)
+abbrev pub qp_fields : Lines → QpLine → List (List ℕ)
+qp_fields d l =
+    codes "qp" ∷ l.name ∷ pd_name d l.pd ∷ cq_name d l.send_cq ∷ cq_name d l.recv_cq ∷ decimal l.send_log ∷ (codes "rq:" ++ decimal l.recv_log)
     ∷ decimal l.segments
     ∷ decimal l.start
-    ∷ [])
+    ∷ []
+
+abbrev pub connect_fields : Lines → Connect → List (List ℕ)
+connect_fields d c = codes "connect" ∷ qp_name d c.a ∷ qp_name d c.b ∷ []
+
+abbrev pub eq_text : EqLine → List ℕ
+eq_text l = line (eq_fields l)
+
+abbrev pub pd_text : PdLine → List ℕ
+pd_text l = line (pd_fields l)
+
+abbrev pub cq_text : Lines → CqLine → List ℕ
+cq_text d l = line (cq_fields d l)
+
+abbrev pub qp_text : Lines → QpLine → List ℕ
+qp_text d l = line (qp_fields d l)
 
 abbrev pub connect_text : Lines → Connect → List ℕ
-connect_text d c = line (codes "connect" ∷ qp_name d c.a ∷ qp_name d c.b ∷ [])
+connect_text d c = line (connect_fields d c)
 
 abbrev pub object_text : Lines → Object → List ℕ
 object_text d (Eq n) = text_at eq_text d.eqs n

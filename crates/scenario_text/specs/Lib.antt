@@ -3,3 +3,10 @@ pub mod Heads
 pub mod Spelling
 pub mod Limits
 pub mod Grammar
+pub mod Faults
+pub mod Reading
+pub mod Naming
+pub mod Known
+pub mod Head
+pub mod Read
+pub mod Calls

@@ -1,9 +1,10 @@
 //! What a scenario says.
-ghost use Rattle.std.specs.Prelude.{◌≡◌};
-ghost use Rattle.scenario_text.specs.Grammar.{IsScenario};
+ghost use Rattle.std.specs.Prelude.{◌≡◌, IfOk, IsOk};
+ghost use Rattle.scenario_text.specs.Grammar.{IsScenario, nothing};
 
+use std::alloc::Global;
 use std::marker::Model;
-use verbs_model::{Call, Declared, Lines, Sequence};
+use verbs_model::{Call, Declared, Lines, NotDeclared, Sequence};
 
 /// An item of a schedule: this actor's turns.
 #[derive(Clone, Copy, Debug, PartialEq, Eq)]
@@ -53,6 +54,43 @@ impl Model for Scenario {
 }
 
 impl Scenario {
+    /// The scenario of the empty text.
+    pub(crate) fn nothing(alloc: Global) -> Result<Scenario, NotDeclared>
+        ensures nothing { IfOk result (λ s. s ≡ nothing) }
+        ensures always { IsOk result }
+    {
+        let lines = Lines {
+            eqs: Sequence::from_vec(Vec::new(alloc)),
+            pds: Sequence::from_vec(Vec::new(alloc)),
+            cqs: Sequence::from_vec(Vec::new(alloc)),
+            qps: Sequence::from_vec(Vec::new(alloc)),
+            order: Sequence::from_vec(Vec::new(alloc)),
+            connects: Sequence::from_vec(Vec::new(alloc)),
+            threads: Sequence::from_vec(Vec::new(alloc)),
+        };
+        Ok(Scenario {
+            declared: Declared::new(lines)?,
+            programs: Sequence::from_vec(Vec::new(alloc)),
+            plan: Plan::Idle,
+        })
+    }
+
+    /// The scenario with these parts.
+    pub(crate) fn new(
+        declared: Declared,
+        programs: Sequence<Sequence<Call>>,
+        plan: Plan,
+    ) -> Scenario
+        requires scenario { IsScenario (record { lines = declared; programs = programs; plan = plan }) }
+        ensures { result ≡ record { lines = declared; programs = programs; plan = plan } }
+    {
+        Scenario {
+            declared,
+            programs,
+            plan,
+        }
+    }
+
     /// The declared objects.
     pub fn declared(&self) -> &Declared
         ensures lines { result.now ≡ self.now.lines }
