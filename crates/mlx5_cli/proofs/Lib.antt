@@ -1,5 +1,4 @@
 mod Exactly
 mod Entries
 mod GrammarLemmas
-mod Pieces
 mod Refusing

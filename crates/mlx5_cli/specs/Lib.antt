@@ -1,8 +1,4 @@
-pub mod Count
-pub mod Source
-pub mod Sink
 pub mod Status
-pub mod Writing
 pub mod Reading
 pub mod Grammar
 pub mod History

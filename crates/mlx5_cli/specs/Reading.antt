@@ -4,8 +4,8 @@ use Rattle.std.specs.Io.KnownBytes.{Consumes, IsAtEnd}
 use Rattle.mlx5_cli.specs.declared.reading.TheConstants.{TEXT_LIMIT}
 use Rattle.mlx5_cli.specs.declared.reading.ReadError.{ReadError}
 use Rattle.mlx5_cli.specs.declared.reading.ReadError.TheVariants.{Failed, TooLong, NoMemory}
-use Rattle.mlx5_cli.specs.Count.{Rose}
-use Rattle.mlx5_cli.specs.Source.{SourceState}
+use Rattle.byte_streams.specs.Count.{Rose}
+use Rattle.byte_streams.specs.Source.{SourceState}
 
 -- this text was all that was left
 pub record ReadsWhole (old new : SourceState) (text : List ℕ) : Type 0 where

@@ -5,11 +5,11 @@ use Rattle.std.specs.declared.alloc.Global.{Global}
 use Rattle.std.specs.Io.KnownBytes.{Appends}
 use Rattle.mlx5_cli.specs.declared.status.Status.{Status}
 use Rattle.mlx5_cli.specs.declared.status.Status.TheVariants.{Done, Illegal, Usage, Malformed, Limit, ReadFault, WriteFault, SpawnFault, NoMemory}
-use Rattle.mlx5_cli.specs.Count.{Rose}
-use Rattle.mlx5_cli.specs.Source.{SourceState}
-use Rattle.mlx5_cli.specs.Sink.{SinkState}
+use Rattle.byte_streams.specs.Count.{Rose}
+use Rattle.byte_streams.specs.Source.{SourceState}
+use Rattle.byte_streams.specs.Sink.{SinkState}
 use Rattle.mlx5_cli.specs.Reading.{ReadsWhole, ReadsTooMuch}
-use Rattle.mlx5_cli.specs.Writing.{WritesPart}
+use Rattle.byte_streams.specs.Writing.{WritesPart}
 use Rattle.mlx5_cli.specs.Grammar.{OfGrammar}
 use Rattle.mlx5_cli.specs.History.{IsHistoryOf}
 

@@ -2,25 +2,18 @@
 //! its standard streams.
 #![tactic(auto)]
 
-mod failed;
 mod history;
 mod reading;
 mod run;
-mod sink;
-mod source;
 mod status;
-mod streams;
 #[cfg(test)]
 mod tests;
-mod text_sink;
-mod text_source;
 mod words;
-mod writing;
 
+use byte_streams::{StreamSink, StreamSource};
 use run::{run_plain, say};
 use status::Status;
 use std::process::ExitCode;
-use streams::{StreamSink, StreamSource};
 use words::words_after_name;
 
 fn main(rt: HostRuntime) -> ExitCode {

@@ -2,8 +2,7 @@
 ghost use Rattle.std.specs.Prelude.{◌≤◌, IfOk, IfErr};
 ghost use Rattle.mlx5_cli.specs.Reading.{ReadsWhole, StopsReading};
 
-use crate::failed::Failed;
-use crate::source::Source;
+use byte_streams::{Failed, Source};
 use std::alloc::{AllocError, Global};
 use thiserror::Error;
 

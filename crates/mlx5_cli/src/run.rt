@@ -5,10 +5,8 @@ ghost use Rattle.mlx5_cli.specs.Run.{asks_for_run as asks, call, Says, status_of
 
 use crate::history::{Refusal, history_of};
 use crate::reading::{ReadError, read_all};
-use crate::sink::Sink;
-use crate::source::Source;
 use crate::status::Status;
-use crate::writing::write_all;
+use byte_streams::{Sink, Source, write_all};
 use std::alloc::Global;
 
 impl From<ReadError> for Status {

@@ -1,13 +1,9 @@
 //! Whole commands over a source and sinks in memory.
 
-use crate::failed::Failed;
 use crate::run::run_plain;
-use crate::source::Source;
 use crate::status::Status;
-use crate::streams::{StreamSink, StreamSource};
-use crate::text_sink::TextSink;
-use crate::text_source::TextSource;
 use crate::words::words_after_name;
+use byte_streams::{Failed, Sink, Source, StreamSink, StreamSource, TextSink, TextSource};
 use std::alloc::AllocError;
 use std::env::{Env, FillError};
 use std::io;

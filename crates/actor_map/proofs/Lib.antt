@@ -1,0 +1,4 @@
+mod Firsts
+mod Bounds
+mod Placing
+mod Objects

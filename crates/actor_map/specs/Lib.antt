@@ -1,0 +1,6 @@
+pub mod Sizes
+pub mod Limits
+pub mod Map
+pub mod Places
+pub mod Apart
+pub mod Faults

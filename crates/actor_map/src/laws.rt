@@ -1,0 +1,17 @@
+//! Laws of the map that hold with no code.
+ghost use Rattle.actor_map.specs.Apart.{AreApart, AreInside, IsWhole};
+
+/// Each object ends where the next begins or before: no word is in two objects.
+pub fn apart()
+    ensures { AreApart }
+{}
+
+/// Each object begins at the first word of objects or later, and ends within the words of the map.
+pub fn inside()
+    ensures { AreInside }
+{}
+
+/// Each declared object has its place in the map, and each place is that of one object.
+pub fn whole()
+    ensures { IsWhole }
+{}

@@ -1,0 +1,16 @@
+//! Where the objects of a scenario stand among the words that the adapter and the provider share. The map is
+//! this project's own: the adapter's manual fixes what stands in an object, and leaves to the host where it
+//! stands.
+#![tactic(auto)]
+
+mod kind;
+pub mod laws;
+mod map;
+mod placed;
+mod sizes;
+#[cfg(test)]
+mod tests;
+
+pub use kind::ObjectKind;
+pub use map::{AddressMap, MapFault};
+pub use sizes::{FIRST_OBJECT, words};

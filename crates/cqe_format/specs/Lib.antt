@@ -1,0 +1,6 @@
+pub mod Bytes
+pub mod Opcode
+pub mod Syndrome
+pub mod Completion
+pub mod Event
+pub mod Search

@@ -1,0 +1,12 @@
+pub mod Words
+pub mod Fills
+pub mod UnitPuts
+pub mod DataSegments
+pub mod InlineSegments
+pub mod Judging
+pub mod Reading
+pub mod Accepted
+pub mod OneValue
+pub mod OneEntry
+pub mod Writing
+pub mod Receiving

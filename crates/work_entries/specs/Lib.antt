@@ -1,0 +1,13 @@
+pub mod Filled
+pub mod SgeArrayInside
+pub mod InlineBytesInside
+pub mod Opcode
+pub mod Unit
+pub mod Control
+pub mod Operation
+pub mod Body
+pub mod Send
+pub mod Rules
+pub mod Found
+pub mod Receive
+pub mod Laws
