@@ -6,25 +6,7 @@ cd -- "$(dirname -- "${BASH_SOURCE[0]}")/.."
 
 dump=$PWD/mlx5_dump
 table=crates/mlx5_dump
-passed=0
-failed=0
-
-# Judges a case by what it had and was to have.
-judge() {
-    if [[ $2 == "$3" ]]; then
-        passed=$((passed + 1))
-    else
-        failed=$((failed + 1))
-        printf '%s: %q in place of %q\n' "$1" "$2" "$3"
-    fi
-}
-
-# The status of a command, and what it says on standard error.
-said() {
-    local errors
-    errors=$("$@" 2>&1 >/dev/null)
-    printf '%d %s' $? "$errors"
-}
+source tests/judging.bash
 
 from_folder() { "$dump" <"$PWD"; }
 into_full_device() { "$dump" <"$table/stdin" >/dev/full; }
@@ -44,5 +26,4 @@ judge 'a folder as input' "$(said from_folder)" '5 mlx5_dump: read fault'
 judge 'a full device' "$(said into_full_device)" '6 mlx5_dump: write fault'
 judge 'version' "$("$dump" --version)" 'mlx5_dump 0.1.0'
 
-printf '%d passed, %d failed\n' "$passed" "$failed"
-[[ $failed -eq 0 ]]
+counted

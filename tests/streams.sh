@@ -4,25 +4,7 @@ set -uo pipefail
 cd -- "$(dirname -- "${BASH_SOURCE[0]}")/.."
 
 mlx5=$PWD/mlx5
-passed=0
-failed=0
-
-# Judges a case by the status and the standard error that it had and was to have.
-judge() {
-    if [[ $2 == "$3" ]]; then
-        passed=$((passed + 1))
-    else
-        failed=$((failed + 1))
-        printf '%s: %q in place of %q\n' "$1" "$2" "$3"
-    fi
-}
-
-# The status of a command, and what it says on standard error.
-said() {
-    local errors
-    errors=$("$@" 2>&1 >/dev/null)
-    printf '%d %s' $? "$errors"
-}
+source tests/judging.bash
 
 into_full_device() { "$mlx5" run </dev/null >/dev/full; }
 
@@ -53,5 +35,4 @@ judge 'a closed pipe' "$(said into_closed_pipe)" '6 mlx5: write fault'
 judge 'help' "$(said "$mlx5" --help)" '0 '
 judge 'version' "$("$mlx5" --version)" 'mlx5 0.1.0'
 
-printf '%d passed, %d failed\n' "$passed" "$failed"
-[[ $failed -eq 0 ]]
+counted
