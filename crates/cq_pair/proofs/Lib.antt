@@ -1,0 +1,11 @@
+pub mod HostTurns
+pub mod DeviceTurns
+pub mod Spelled
+pub mod Tied
+pub mod DeviceStep
+pub mod HostStep
+pub mod Law
+pub mod Knowing
+pub mod Rows
+pub mod Kept
+pub mod Says

@@ -1,0 +1,63 @@
+-- The rule of the device's side, over its own operations on the queue's words.
+use Rattle.std.specs.Prelude.{◌≡◌, Bool, true, false, Option, Some, None}
+use Rattle.bus_core.specs.declared.operation.BusEntry.{BusEntry}
+use Rattle.bus_core.specs.Operation.{IsLoad}
+use Rattle.cqe_format.specs.declared.completion.Cqe.{Cqe}
+use Rattle.cqe_format.specs.Bytes.{entry_bytes}
+use Rattle.cqe_format.specs.Completion.{IsCqe}
+use Rattle.owner_ring.specs.Ring.{RingEvent}
+use Rattle.owner_ring.specs.Ring as ring
+use Rattle.owner_ring.specs.Producer.{Producer, MayProduce, after_produce}
+use Rattle.owner_ring.specs.Producer as ring_side
+use Rattle.cq_pair.specs.declared.place.CqPlace.{CqPlace}
+use Rattle.cq_pair.specs.Place.{ring_of}
+use Rattle.cq_pair.specs.Mark.{QueueMark, Publish, Lose}
+use Rattle.cq_pair.specs.Queue.{QueueEvent, Published, Overrun, Lost}
+
+-- the side as the ring's producer, and whether the queue has overrun
+pub record QueueDevice : Type 0 where
+  pub producer : Producer
+  pub overrun : Bool
+
+-- what a publication's operation says to the ring
+abbrev pub produced : CqPlace → QueueDevice → BusEntry → Option RingEvent
+produced place d e = ring_side.produced (ring_of place) d.producer e
+
+-- an entry that the ring gets by it is this completion
+abbrev pub Spells : Cqe → Option RingEvent → Type 0
+Spells completion (Some (ring.Published index words)) = IsCqe completion (entry_bytes words)
+Spells completion _ = Unit {0}
+
+pub record MayPublish (place : CqPlace) (d : QueueDevice) (completion : Cqe) (e : BusEntry) : Type 0 where
+  pub runs : d.overrun ≡ false
+  pub ring : MayProduce (ring_of place) d.producer e
+  pub spells : Spells completion (produced place d e)
+
+pub record MayLose (place : CqPlace) (d : QueueDevice) (e : BusEntry) : Type 0 where
+  pub stopped : d.overrun ≡ true
+  pub load : IsLoad place.dbr e
+
+-- A publication is the ring's, of words that are the completion. A queue that has overrun gets no entry any more: the side only loads the consumer index.
+abbrev pub MayDeliver : CqPlace → QueueDevice → QueueMark → BusEntry → Type 0
+MayDeliver place d (Publish completion) e = MayPublish place d completion e
+MayDeliver place d Lose e = MayLose place d e
+MayDeliver place d _ e = ⊥
+
+abbrev pub is_full : Option RingEvent → Bool
+is_full (Some (ring.Full index ci)) = true
+is_full _ = false
+
+abbrev pub after_deliver : CqPlace → QueueDevice → QueueMark → BusEntry → QueueDevice
+after_deliver place d (Publish completion) e = record { producer = after_produce (ring_of place) d.producer e; overrun = is_full (produced place d e) }
+after_deliver place d _ e = d
+
+abbrev pub published_as : Cqe → Option RingEvent → Option QueueEvent
+published_as completion (Some (ring.Published index words)) = Some (Published index completion)
+published_as completion (Some (ring.Full index ci)) = Some (Overrun index ci)
+published_as completion _ = None
+
+-- what the operation says, if it is a marked one
+abbrev pub delivered : CqPlace → QueueDevice → QueueMark → BusEntry → Option QueueEvent
+delivered place d (Publish completion) e = published_as completion (produced place d e)
+delivered place d Lose e = Some Lost
+delivered place d _ e = None

@@ -1,0 +1,12 @@
+pub mod Place
+pub mod Queue
+pub mod Mark
+pub mod Device
+pub mod Host
+pub mod Law
+pub mod Rows
+pub mod Turn
+pub mod DeviceView
+pub mod DeviceInside
+pub mod HostView
+pub mod HostInside
