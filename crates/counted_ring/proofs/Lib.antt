@@ -1,0 +1,3 @@
+pub mod Parts
+pub mod DeviceTurns
+pub mod PosterTurns

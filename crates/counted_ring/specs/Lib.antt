@@ -1,0 +1,13 @@
+pub mod Place
+pub mod Mark
+pub mod Queue
+pub mod Poster
+pub mod Retirer
+pub mod Device
+pub mod Turn
+pub mod RetirerView
+pub mod RetirerInside
+pub mod DeviceView
+pub mod DeviceInside
+pub mod PosterView
+pub mod PosterInside

@@ -1,0 +1,56 @@
+-- How the fields of a poster are seen.
+use Rattle.std.specs.Prelude.{ℕ, ◌≡◌, ◌*◌, ◌<◌, ◌^◌, true, take, slice_index, Option, Some, None}
+use Rattle.work_entries.specs.declared.units.SendWords.{SendWords}
+use Rattle.counted_ring.specs.declared.place.WqPlace.{WqPlace}
+use Rattle.counted_ring.specs.declared.poster.Phase.{Phase}
+use Rattle.counted_ring.specs.declared.poster.Phase.TheVariants as phases
+use Rattle.counted_ring.specs.declared.poster.WqPoster.TheInside.{Inside}
+use Rattle.counted_ring.specs.Place.{IsPlace, is_send, span}
+use Rattle.counted_ring.specs.Poster.{Stage, Ready, Storing, Naming, Counting, Ringing}
+use Rattle.counted_ring.specs.PosterView.{PosterView, PosterTask, Posting, Doorbell, entry_words}
+
+abbrev pub stage_in : WqPlace → SendWords → ℕ → Phase → Stage
+stage_in place entry id phases.Idle = Ready
+stage_in place entry id phases.Asking = Ready
+stage_in place entry id (phases.Storing stored) = Storing (take stored entry.words)
+stage_in place entry id phases.Naming = Naming (entry_words place entry)
+stage_in place entry id phases.Counting = Counting (entry_words place entry) id
+stage_in place entry id phases.Recording = Ready
+stage_in place entry id phases.Ringing = Ringing
+
+abbrev pub task_in : WqPlace → SendWords → ℕ → Phase → Option PosterTask
+task_in place entry id phases.Idle = None
+task_in place entry id phases.Asking = Some (Posting (entry_words place entry) id)
+task_in place entry id (phases.Storing stored) = Some (Posting (entry_words place entry) id)
+task_in place entry id phases.Naming = Some (Posting (entry_words place entry) id)
+task_in place entry id phases.Counting = Some (Posting (entry_words place entry) id)
+task_in place entry id phases.Recording = Some Doorbell
+task_in place entry id phases.Ringing = Some Doorbell
+
+abbrev pub poster_view : Inside → PosterView
+poster_view a = record {
+  place = a.place;
+  side = record { count = a.count; index = a.index; first = a.first; stage = stage_in a.place a.entry a.id a.phase };
+  task = task_in a.place a.entry a.id a.phase;
+  seen = a.seen;
+}
+
+-- the entry has as many blocks as its first word says
+pub record IsEntry (place : WqPlace) (count index : ℕ) (entry : SendWords) : Type 0 where
+  pub spans : entry.blocks ≡ span place (slice_index entry.words 0)
+  pub count_low : count < 2 ^ 62
+  pub index_low : index < 2 ^ 62
+
+abbrev pub IsAtWork : WqPlace → ℕ → ℕ → SendWords → Phase → Type 0
+IsAtWork place count index entry phases.Idle = Unit {0}
+IsAtWork place count index entry phases.Asking = IsEntry place count index entry
+IsAtWork place count index entry (phases.Storing stored) = IsEntry place count index entry × (stored < entry.blocks * place.stride)
+IsAtWork place count index entry phases.Naming = IsEntry place count index entry
+IsAtWork place count index entry phases.Counting = IsEntry place count index entry × (is_send place ≡ true)
+IsAtWork place count index entry phases.Recording = Unit {0}
+IsAtWork place count index entry phases.Ringing = is_send place ≡ true
+
+pub record IsPoster (a : Inside) : Type 0 where
+  pub place_ok : IsPlace a.place
+  pub low_index : a.index < 2 ^ 63
+  pub work : IsAtWork a.place a.count a.index a.entry a.phase

@@ -1,0 +1,100 @@
+-- What a poster is to a caller, and what a turn of it does.
+use Rattle.std.specs.Prelude.{ℕ, ◌≡◌, ◌-◌, ◌*◌, ◌<◌, List, length, take, true, Option, Some, None}
+use Rattle.bus_core.specs.declared.operation.BusEntry.{BusEntry}
+use Rattle.bus_core.specs.declared.turn.Step.{Step}
+use Rattle.bus_core.specs.declared.turn.Step.TheVariants.{More, Gave, Done}
+use Rattle.bus_core.specs.Operation.{loaded}
+use Rattle.work_entries.specs.declared.units.SendWords.{SendWords}
+use Rattle.counted_ring.specs.declared.place.WqPlace.{WqPlace}
+use Rattle.counted_ring.specs.declared.poster.Posted.{Posted}
+use Rattle.counted_ring.specs.declared.poster.Posted.TheVariants as answers
+use Rattle.counted_ring.specs.Place.{touches}
+use Rattle.counted_ring.specs.Queue.{WqEvent, Wrote, Full}
+use Rattle.counted_ring.specs.Poster.{Stage, Ready, Storing, Naming, Counting, Ringing, Poster, MayPost, MayRing, after_post, after_ring, post_says, ring_says}
+use Rattle.counted_ring.specs.Mark.{WqMark, Post, Ring, Foreign}
+use Rattle.counted_ring.specs.Turn.{task_after}
+
+pub data PosterTask : Type 0 where
+  -- of these words, with this id
+  Posting : (words : List ℕ) (id : ℕ) → PosterTask
+  Doorbell : PosterTask
+
+pub record PosterView : Type 0 where
+  pub place : WqPlace
+  pub side : Poster
+  pub task : Option PosterTask
+  -- the tail that was loaded last, at first 0
+  pub seen : ℕ
+
+abbrev pub entry_words : WqPlace → SendWords → List ℕ
+entry_words place entry = take (entry.blocks * place.stride) entry.words
+
+-- what its next operation is about
+abbrev pub mark_of : Option PosterTask → WqMark
+mark_of None = Foreign
+mark_of (Some (Posting words id)) = Post
+mark_of (Some Doorbell) = Ring
+
+-- the rule of an operation with this mark, the side after it, and what it says
+abbrev pub MayBring : WqPlace → Poster → WqMark → BusEntry → Type 0
+MayBring place p Post e = MayPost place p e
+MayBring place p Ring e = MayRing place p e
+MayBring place p _ e = ⊥
+
+abbrev pub after_bring : WqPlace → Poster → WqMark → BusEntry → Poster
+after_bring place p Post e = after_post place p e
+after_bring place p Ring e = after_ring place p
+after_bring place p _ e = p
+
+abbrev pub brought : WqPlace → Poster → WqMark → BusEntry → Option WqEvent
+brought place p Post e = post_says place p e
+brought place p Ring e = ring_says p
+brought place p _ e = None
+
+-- what an answer to a task says; a ring says that it rang at its record, and answers after its register
+abbrev pub post_answer : List ℕ → ℕ → Step (Unit {0}) Posted → Option WqEvent
+post_answer words id More = None
+post_answer words id (Gave part) = None
+post_answer words id (Done answers.Wrote) = Some (Wrote words id)
+post_answer words id (Done answers.Rung) = None
+post_answer words id (Done (answers.Full head tail)) = Some (Full head tail)
+
+abbrev pub answer_says : Option PosterTask → Poster → Step (Unit {0}) Posted → Option WqEvent
+answer_says None p answer = None
+answer_says (Some (Posting words id)) p answer = post_answer words id answer
+answer_says (Some Doorbell) p answer = ring_says p
+
+abbrev pub seen_at : Stage → ℕ → BusEntry → ℕ
+seen_at Ready seen e = loaded e
+seen_at (Storing words) seen e = seen
+seen_at (Naming words) seen e = seen
+seen_at (Counting words id) seen e = seen
+seen_at Ringing seen e = seen
+
+abbrev pub seen_after : Option PosterTask → Stage → ℕ → BusEntry → ℕ
+seen_after None stage seen e = seen
+seen_after (Some (Posting words id)) stage seen e = seen_at stage seen e
+seen_after (Some Doorbell) stage seen e = seen
+
+-- how many turns the task still takes
+abbrev pub stage_turns : Stage → ℕ
+stage_turns Ready = 36
+stage_turns (Storing words) = 35 - length words
+stage_turns (Naming words) = 2
+stage_turns (Counting words id) = 1
+stage_turns Ringing = 1
+
+abbrev pub turns_left : Option PosterTask → Stage → ℕ
+turns_left None stage = 0
+turns_left (Some task) stage = stage_turns stage
+
+-- one operation, which keeps the poster's rule
+pub record PosterTurn (old new : PosterView) (e : BusEntry) (answer : Step (Unit {0}) Posted) : Type 0 where
+  pub may : MayBring old.place old.side (mark_of old.task) e
+  pub inside : touches old.place e.addr ≡ true
+  pub side : new.side ≡ after_bring old.place old.side (mark_of old.task) e
+  pub says : answer_says old.task old.side answer ≡ brought old.place old.side (mark_of old.task) e
+  pub task : new.task ≡ task_after old.task answer
+  pub fewer : turns_left new.task new.side.stage < turns_left old.task old.side.stage
+  pub seen : new.seen ≡ seen_after old.task old.side.stage old.seen e
+  pub place : new.place ≡ old.place
