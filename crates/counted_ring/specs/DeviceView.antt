@@ -1,16 +1,13 @@
 -- What a queue's device is to a caller, and what a turn of it does.
-use Rattle.std.specs.Prelude.{ℕ, ◌≡◌, ◌-◌, ◌<◌, ◌==◌, List, length, true, false, Option, Some, None, if◌then◌else◌}
+use Rattle.std.specs.Prelude.{ℕ, ◌≡◌, ◌-◌, ◌<◌, ◌==◌, length, true, false, Option, Some, None, if◌then◌else◌}
 use Rattle.bus_core.specs.declared.operation.BusEntry.{BusEntry}
 use Rattle.bus_core.specs.declared.turn.Step.{Step}
 use Rattle.bus_core.specs.declared.turn.Step.TheVariants.{More, Gave, Done}
 use Rattle.bus_core.specs.Operation.{loaded}
-use Rattle.work_entries.specs.declared.units.SendWords.{SendWords}
-use Rattle.std.specs.Prelude.{take}
-use Rattle.std.specs.Prelude.{◌*◌}
 use Rattle.counted_ring.specs.declared.place.WqPlace.{WqPlace}
 use Rattle.counted_ring.specs.declared.device.WqSeen.{WqSeen}
 use Rattle.counted_ring.specs.declared.device.WqSeen.TheVariants as answers
-use Rattle.counted_ring.specs.Place.{touches, shown}
+use Rattle.counted_ring.specs.Place.{touches, shown, entry_words}
 use Rattle.counted_ring.specs.Queue.{WqEvent, Counted, Took}
 use Rattle.counted_ring.specs.Device.{WqReader, MayLook, MayRecord, MayRead, after_look, after_record, after_read, read_says}
 use Rattle.counted_ring.specs.Mark as marks
@@ -52,10 +49,6 @@ delivered place d marks.Look e = None
 delivered place d (marks.Record passes) e = Some (Counted (shown d.next (loaded e)) passes)
 delivered place d marks.Read e = read_says place d e
 delivered place d _ e = None
-
--- the words of an entry, as its blocks have them
-abbrev pub entry_words : WqPlace → SendWords → List ℕ
-entry_words place entry = take (entry.blocks * place.stride) entry.words
 
 -- a look says by its answer whether the register is another one
 abbrev pub answer_says : WqPlace → Step (Unit {0}) WqSeen → Option WqEvent

@@ -1,5 +1,6 @@
 -- Where a counted queue lies, and what its words say.
-use Rattle.std.specs.Prelude.{ℕ, ◌≡◌, ◌+◌, ◌-◌, ◌*◌, ◌/◌, ◌%◌, ◌^◌, ◌<◌, ◌≤◌, ◌==◌, ◌&&◌, ◌||◌, nat_le, nat_lt, if◌then◌else◌, Bool, true, false, Option, Some, None}
+use Rattle.std.specs.Prelude.{ℕ, ◌≡◌, ◌+◌, ◌-◌, ◌*◌, ◌/◌, ◌%◌, ◌^◌, ◌<◌, ◌≤◌, ◌==◌, ◌&&◌, ◌||◌, nat_le, nat_lt, if◌then◌else◌, Bool, true, false, Option, Some, None, List, take}
+use Rattle.work_entries.specs.declared.units.SendWords.{SendWords}
 use Rattle.counted_ring.specs.declared.place.WqPlace.{WqPlace}
 
 abbrev pub has_register : Option ℕ → Bool
@@ -31,6 +32,10 @@ span place first = if is_send place then unit_blocks (first % 2 ^ 6) else 1
 -- the most blocks of an entry
 abbrev pub most : WqPlace → ℕ
 most place = if is_send place then 4 else 1
+
+-- the words of an entry, as its blocks have them
+abbrev pub entry_words : WqPlace → SendWords → List ℕ
+entry_words place entry = take (entry.blocks * place.stride) entry.words
 
 -- the record of a block index: its low 16 bits
 abbrev pub record_of : ℕ → ℕ

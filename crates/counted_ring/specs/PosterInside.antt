@@ -5,9 +5,9 @@ use Rattle.counted_ring.specs.declared.place.WqPlace.{WqPlace}
 use Rattle.counted_ring.specs.declared.poster.Phase.{Phase}
 use Rattle.counted_ring.specs.declared.poster.Phase.TheVariants as phases
 use Rattle.counted_ring.specs.declared.poster.WqPoster.TheInside.{Inside}
-use Rattle.counted_ring.specs.Place.{IsPlace, is_send, span}
+use Rattle.counted_ring.specs.Place.{IsPlace, is_send, span, entry_words}
 use Rattle.counted_ring.specs.Poster.{Stage, Ready, Storing, Naming, Counting, Ringing}
-use Rattle.counted_ring.specs.PosterView.{PosterView, PosterTask, Posting, Doorbell, entry_words}
+use Rattle.counted_ring.specs.PosterView.{PosterView, PosterTask, Posting, Doorbell}
 
 abbrev pub stage_in : WqPlace → SendWords → ℕ → Phase → Stage
 stage_in place entry id phases.Idle = Ready

@@ -1,10 +1,9 @@
 -- What a poster is to a caller, and what a turn of it does.
-use Rattle.std.specs.Prelude.{ℕ, ◌≡◌, ◌-◌, ◌*◌, ◌<◌, List, length, take, true, Option, Some, None}
+use Rattle.std.specs.Prelude.{ℕ, ◌≡◌, ◌-◌, ◌<◌, List, length, true, Option, Some, None}
 use Rattle.bus_core.specs.declared.operation.BusEntry.{BusEntry}
 use Rattle.bus_core.specs.declared.turn.Step.{Step}
 use Rattle.bus_core.specs.declared.turn.Step.TheVariants.{More, Gave, Done}
 use Rattle.bus_core.specs.Operation.{loaded}
-use Rattle.work_entries.specs.declared.units.SendWords.{SendWords}
 use Rattle.counted_ring.specs.declared.place.WqPlace.{WqPlace}
 use Rattle.counted_ring.specs.declared.poster.Posted.{Posted}
 use Rattle.counted_ring.specs.declared.poster.Posted.TheVariants as answers
@@ -25,9 +24,6 @@ pub record PosterView : Type 0 where
   pub task : Option PosterTask
   -- the tail that was loaded last, at first 0
   pub seen : ℕ
-
-abbrev pub entry_words : WqPlace → SendWords → List ℕ
-entry_words place entry = take (entry.blocks * place.stride) entry.words
 
 -- what its next operation is about
 abbrev pub mark_of : Option PosterTask → WqMark

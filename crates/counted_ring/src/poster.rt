@@ -2,9 +2,9 @@
 ghost use Rattle.std.specs.Prelude.{◌≡◌, ◌<◌, ◌^◌, ◌↔◌, IsTrue, IsSome, Some, None, slice_index};
 ghost use Rattle.bus_core.specs.Port.{Appends};
 ghost use Rattle.bus_core.specs.declared.operation.BusEntry.{BusEntry};
-ghost use Rattle.counted_ring.specs.Place.{IsPlace, span};
+ghost use Rattle.counted_ring.specs.Place.{IsPlace, span, entry_words};
 ghost use Rattle.counted_ring.specs.Poster.{Ready};
-ghost use Rattle.counted_ring.specs.PosterView.{PosterTurn, Posting, Doorbell, entry_words};
+ghost use Rattle.counted_ring.specs.PosterView.{PosterTurn, Posting, Doorbell};
 ghost use Rattle.counted_ring.specs.Turn.{CanServe, count_note};
 
 use crate::place::{WqPlace, outstanding};
