@@ -13,6 +13,7 @@ mod PlainLines
 mod Following
 mod Sameness
 mod Whole
+pub mod Runs
 mod Texts
 mod FirstPaths
 pub mod RequestLemmas

@@ -12,7 +12,7 @@ use Rattle.verbs_model.specs.declared.declaration.Lines.{Lines}
 use Rattle.verbs_model.specs.declared.declaration.TheConstants.{FIRST_PD, FIRST_QP}
 use Rattle.verbs_model.specs.declared.request.Request.{Request}
 use Rattle.scenario_text.specs.declared.scenario.Plan.{Plan}
-use Rattle.scenario_text.specs.declared.scenario.Plan.TheVariants.{Idle, Schedule}
+use Rattle.scenario_text.specs.declared.scenario.Plan.TheVariants.{Idle, Schedule, Rounds}
 use Rattle.scenario_text.specs.declared.scenario.PlanItem.{PlanItem}
 use Rattle.scenario_text.specs.declared.scenario.ScenarioParts.{ScenarioParts}
 use Rattle.scenario_text.specs.Calls.{flags_text}
@@ -169,6 +169,7 @@ module _ (d : Lines) (h : IsHead (without_threads d)) where
 
   pub plan_plain : All IsName d.threads → (plan : Plan) → IsSchedule d plan → All IsPlainLine (plan_lines d plan)
   plan_plain named Idle is = absurd is
+  plan_plain named (Rounds n) is = absurd is
   plan_plain named (Schedule items) is = All-cons IsPlainLine (codes "schedule" ∷ map (item_text d) items) [] (omega arith, items_plain named items is.1) (All-nil IsPlainLine)
 
 pub all_plain : (s : ScenarioParts) → IsRead s → All IsPlainLine (all_lines s)

@@ -6,7 +6,7 @@ use Rattle.verbs_model.specs.Lines.{is_cq_line, is_qp_line}
 use Rattle.verbs_model.specs.declared.call.Call.{Call}
 use Rattle.verbs_model.specs.declared.declaration.Lines.{Lines}
 use Rattle.scenario_text.specs.declared.scenario.Plan.{Plan}
-use Rattle.scenario_text.specs.declared.scenario.Plan.TheVariants.{Idle, Schedule}
+use Rattle.scenario_text.specs.declared.scenario.Plan.TheVariants.{Idle, Schedule, Rounds}
 use Rattle.scenario_text.specs.declared.scenario.PlanItem.{PlanItem}
 use Rattle.scenario_text.specs.declared.scenario.ScenarioParts.{ScenarioParts}
 use Rattle.scenario_text.specs.Grammar.{AreApart, IsItem, IsName, IsSchedule, all_names}
@@ -58,6 +58,7 @@ head_first s read =
 -- a line of a schedule begins no thread
 pub plan_ends : (d : Lines) (plan : Plan) → IsSchedule d plan → EndsThreads (plan_lines d plan)
 plan_ends d Idle is begins = absurd is
+plan_ends d (Rounds n) is begins = absurd is
 plan_ends d (Schedule items) is begins = words_differ (codes "schedule") (codes "thread") refl (first_word begins.2)
 
 -- the names of objects alone are apart
@@ -86,10 +87,12 @@ same_threads d e ps qs a b h k same ends ends' t =
 -- a schedule is one line
 pub one_line : (d : Lines) (plan : Plan) (f : Line) (rest : List Line) → IsSchedule d plan → f ∷ rest ≡ plan_lines d plan → rest ≡ []
 one_line d Idle f rest is e = absurd is
+one_line d (Rounds n) f rest is e = absurd is
 one_line d (Schedule items) f rest is e = tail_lines e
 
 pub some_line : (d : Lines) (plan : Plan) → IsSchedule d plan → plan_lines d plan ≡ [] → ⊥
 some_line d Idle is e = is
+some_line d (Rounds n) is e = is
 some_line d (Schedule items) is e = absurd (cc)
 
 -- the same lines before a schedule
@@ -135,7 +138,9 @@ same_items d names apart (x ∷ xs) (y ∷ ys) h k e =
 
 same_plan : (d : Lines) (p q : Plan) → All IsName d.threads → AreApart (all_names d) → IsSchedule d p → IsSchedule d q → plan_lines d p ≡ plan_lines d q → p ≡ q
 same_plan d Idle q names apart h k e = absurd h
+same_plan d (Rounds n) q names apart h k e = absurd h
 same_plan d (Schedule xs) Idle names apart h k e = absurd k
+same_plan d (Schedule xs) (Rounds n) names apart h k e = absurd k
 same_plan d (Schedule xs) (Schedule ys) names apart h k e =
     let items : codes "schedule" ∷ map (item_text d) xs ≡ codes "schedule" ∷ map (item_text d) ys = head_line e in
     let texts : map (item_text d) xs ≡ map (item_text d) ys = cc in

@@ -17,7 +17,7 @@ use Rattle.verbs_model.specs.declared.declaration.Object.TheVariants.{Eq, Pd, Cq
 use Rattle.verbs_model.specs.declared.declaration.Lines.{Lines}
 use Rattle.verbs_model.specs.declared.declaration.TheConstants.{FIRST_PD, FIRST_QP}
 use Rattle.scenario_text.specs.declared.scenario.Plan.{Plan}
-use Rattle.scenario_text.specs.declared.scenario.Plan.TheVariants.{Idle, Schedule}
+use Rattle.scenario_text.specs.declared.scenario.Plan.TheVariants.{Idle, Schedule, Rounds}
 use Rattle.scenario_text.specs.declared.scenario.PlanItem.{PlanItem}
 use Rattle.scenario_text.specs.declared.scenario.ScenarioParts.{ScenarioParts}
 use Rattle.scenario_text.specs.Limits.{turn_count, completing_into}
@@ -88,7 +88,8 @@ IsItem d i = (i.actor ≤ length d.threads) × IfSome i.times (λ n. n < 2 ^ 64)
 -- a schedule with at least one item and at most 1,048,576 turns
 abbrev pub IsSchedule : Lines → Plan → Type 0
 IsSchedule d Idle = ⊥
-IsSchedule d (Schedule items) = (1 ≤ length items) × All (IsItem d) items × (turn_count (Schedule items) ≤ 1048576)
+IsSchedule d (Schedule items) = (1 ≤ length items) × All (IsItem d) items × (turn_count (length d.threads) (Schedule items) ≤ 1048576)
+IsSchedule d (Rounds n) = ⊥
 
 -- the requests that complete into each queue are no more than its size
 abbrev pub HasRoom : Lines → List (List Call) → Type 0

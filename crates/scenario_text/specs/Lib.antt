@@ -3,6 +3,7 @@ pub mod Heads
 pub mod Spelling
 pub mod Limits
 pub mod Grammar
+pub mod Running
 pub mod Faults
 pub mod Reading
 pub mod Naming

@@ -1,11 +1,11 @@
 -- Counts of a scenario that have a bound.
-use Rattle.std.specs.Prelude.{ℕ, ◌+◌, ◌==◌, if◌then◌else◌, List, [], ◌∷◌, length, Option, None, Some, replicate}
-use Rattle.std.specs.List.{flat_map, sum_by}
+use Rattle.std.specs.Prelude.{ℕ, zero, suc, ◌+◌, ◌*◌, ◌==◌, if◌then◌else◌, List, [], ◌∷◌, ◌++◌, length, Option, None, Some, replicate}
+use Rattle.std.specs.List.{flat_map, sum_by, range_with_len}
 use Rattle.verbs_model.specs.declared.call.Call.{Call}
 use Rattle.verbs_model.specs.declared.call.Call.TheVariants.{Post, Poll, Drain}
 use Rattle.verbs_model.specs.declared.declaration.QpLine.{QpLine}
 use Rattle.scenario_text.specs.declared.scenario.Plan.{Plan}
-use Rattle.scenario_text.specs.declared.scenario.Plan.TheVariants.{Idle, Schedule}
+use Rattle.scenario_text.specs.declared.scenario.Plan.TheVariants.{Idle, Schedule, Rounds}
 use Rattle.scenario_text.specs.declared.scenario.PlanItem.{PlanItem}
 
 abbrev pub count_of : Option ℕ → ℕ
@@ -15,14 +15,24 @@ count_of (Some n) = n
 abbrev pub times_of : PlanItem → ℕ
 times_of i = count_of i.times
 
--- the actor of each turn
-abbrev pub turns_of : Plan → List ℕ
-turns_of Idle = []
-turns_of (Schedule items) = flat_map (λ (i : PlanItem). replicate (times_of i) i.actor) items
+-- one turn of each of so many threads in order, and then one of the adapter
+abbrev pub round_of : ℕ → List ℕ
+round_of threads = range_with_len 1 threads ++ 0 ∷ []
 
-abbrev pub turn_count : Plan → ℕ
-turn_count Idle = 0
-turn_count (Schedule items) = sum_by times_of items
+abbrev pub rounds_of : ℕ → ℕ → List ℕ
+rounds_of threads zero = []
+rounds_of threads (suc n) = round_of threads ++ rounds_of threads n
+
+-- the actor of each turn, where there are so many threads
+abbrev pub turns_of : ℕ → Plan → List ℕ
+turns_of threads Idle = []
+turns_of threads (Schedule items) = flat_map (λ (i : PlanItem). replicate (times_of i) i.actor) items
+turns_of threads (Rounds n) = rounds_of threads n
+
+abbrev pub turn_count : ℕ → Plan → ℕ
+turn_count threads Idle = 0
+turn_count threads (Schedule items) = sum_by times_of items
+turn_count threads (Rounds n) = n * (threads + 1)
 
 -- the requests of a call on this queue pair
 abbrev pub posted_by : ℕ → Call → ℕ

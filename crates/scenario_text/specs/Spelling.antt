@@ -5,7 +5,7 @@ use Rattle.verbs_model.specs.declared.call.Call.{Call}
 use Rattle.verbs_model.specs.declared.call.Call.TheVariants.{Post, Poll, Drain}
 use Rattle.verbs_model.specs.declared.declaration.Lines.{Lines}
 use Rattle.scenario_text.specs.declared.scenario.Plan.{Plan}
-use Rattle.scenario_text.specs.declared.scenario.Plan.TheVariants.{Idle, Schedule}
+use Rattle.scenario_text.specs.declared.scenario.Plan.TheVariants.{Idle, Schedule, Rounds}
 use Rattle.scenario_text.specs.declared.scenario.PlanItem.{PlanItem}
 use Rattle.scenario_text.specs.declared.scenario.ScenarioParts.{ScenarioParts}
 use Rattle.scenario_text.specs.Requests.{line, request_fields}
@@ -50,6 +50,7 @@ item_text d i = actor_name d i.actor ++ times_text i.times
 abbrev pub plan_lines : Lines → Plan → List (List (List ℕ))
 plan_lines d Idle = []
 plan_lines d (Schedule items) = (codes "schedule" ∷ map (item_text d) items) ∷ []
+plan_lines d (Rounds n) = (codes "rounds" ∷ decimal n ∷ []) ∷ []
 
 abbrev pub scenario_text : ScenarioParts → List ℕ
 scenario_text s = head_text s.lines ++ flat_map line (threads_lines s.lines s.lines.threads s.programs) ++ flat_map line (plan_lines s.lines s.plan)

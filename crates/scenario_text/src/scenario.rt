@@ -1,6 +1,7 @@
 //! What a scenario says.
 ghost use Rattle.std.specs.Prelude.{◌≡◌, IfOk, IsOk};
 ghost use Rattle.scenario_text.specs.Grammar.{IsScenario, nothing};
+ghost use Rattle.scenario_text.specs.Running.{CanRun};
 
 use std::alloc::Global;
 use std::marker::Model;
@@ -22,6 +23,8 @@ pub enum Plan {
     Idle,
     /// These items, one after another.
     Schedule(Sequence<PlanItem>),
+    /// So many rounds, each one turn of every thread in order and then one of the adapter.
+    Rounds(u64),
 }
 
 /// The objects, what each thread is to do, and whose turn it is.
@@ -94,7 +97,7 @@ impl Scenario {
     /// The declared objects.
     pub fn declared(&self) -> &Declared
         ensures lines { result.now ≡ self.now.lines }
-        ensures scenario { IsScenario self.now }
+        ensures scenario { CanRun self.now }
     {
         &self.declared
     }
@@ -102,7 +105,7 @@ impl Scenario {
     /// The calls of each thread, in the order of the threads' names.
     pub fn programs(&self) -> &[Sequence<Call>]
         ensures programs { result.now ≡ self.now.programs }
-        ensures scenario { IsScenario self.now }
+        ensures scenario { CanRun self.now }
     {
         self.programs.as_slice()
     }
@@ -110,7 +113,7 @@ impl Scenario {
     /// Whose turn it is.
     pub fn plan(&self) -> &Plan
         ensures plan { result.now ≡ self.now.plan }
-        ensures scenario { IsScenario self.now }
+        ensures scenario { CanRun self.now }
     {
         &self.plan
     }

@@ -81,7 +81,7 @@ fn posts_two(call: &Call) -> bool {
 fn items_of(scenario: &Scenario) -> Option<&[PlanItem]> {
     match scenario.plan() {
         Plan::Schedule(items) => Some(items.as_slice()),
-        Plan::Idle => None,
+        Plan::Idle | Plan::Rounds(_) => None,
     }
 }
 
