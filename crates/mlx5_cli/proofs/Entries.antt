@@ -24,7 +24,7 @@ use Rattle.verbs_model.specs.Step.{MayStep, after}
 use Rattle.verbs_model.specs.Turned.{IsTurned, Running, after_turn}
 use Rattle.verbs_model.proofs.Failing.{passed}
 use Rattle.scenario_text.specs.declared.scenario.Plan.{Plan}
-use Rattle.scenario_text.specs.declared.scenario.Plan.TheVariants.{Idle, Schedule}
+use Rattle.scenario_text.specs.declared.scenario.Plan.TheVariants.{Idle, Schedule, Rounds}
 use Rattle.scenario_text.specs.declared.scenario.PlanItem.{PlanItem}
 use Rattle.scenario_text.specs.declared.scenario.ScenarioParts.{ScenarioParts}
 use Rattle.scenario_text.specs.Grammar.{IsFirstPath, IsItem, IsScenario, IsSchedule}
@@ -114,13 +114,14 @@ turns_of_items d (i ∷ items) are =
     (All-replicate (λ t. t ≤ length d.threads) (times_of i) i.actor (All-head (IsItem d) i items are).0)
     (turns_of_items d items (All-tail (IsItem d) i items are))
 
-turns_of_plan : (d : Lines) (plan : Plan) → IsSchedule d plan → All (λ t. t ≤ length d.threads) (turns_of plan)
+turns_of_plan : (d : Lines) (plan : Plan) → IsSchedule d plan → All (λ t. t ≤ length d.threads) (turns_of (length d.threads) plan)
 turns_of_plan d Idle is = absurd is
+turns_of_plan d (Rounds n) is = absurd is
 turns_of_plan d (Schedule items) is = turns_of_items d items is.1
 
-turns_of_scenario : (s : ScenarioParts) → IsScenario s → All (λ t. t ≤ length s.lines.threads) (turns_of s.plan)
+turns_of_scenario : (s : ScenarioParts) → IsScenario s → All (λ t. t ≤ length s.lines.threads) (turns_of (length s.lines.threads) s.plan)
 turns_of_scenario s is =
-    ⊎_elim (λ none. subst (λ (s : ScenarioParts). All (λ t. t ≤ length s.lines.threads) (turns_of s.plan)) (sym none) (λ k e below. absurd (omega (arith, below))))
+    ⊎_elim (λ none. subst (λ (s : ScenarioParts). All (λ t. t ≤ length s.lines.threads) (turns_of (length s.lines.threads) s.plan)) (sym none) (λ k e below. absurd (omega (arith, below))))
     (λ (first : IsFirstPath s). turns_of_plan s.lines s.plan first.schedule)
     is
 
@@ -128,8 +129,8 @@ actor_declared : (d : Lines) (n : ℕ) → n ≤ length d.threads → IsActor d 
 actor_declared d zero below = inl refl
 actor_declared d (suc t) below = inr (inr (grind (arith, nat_tests, below)))
 
-pub entries_of_run : (s : ScenarioParts) → IsScenario s → (h : List Entry) → IsRun s.lines s.programs (turns_of s.plan) h → All (IsEntry s.lines) h
+pub entries_of_run : (s : ScenarioParts) → IsScenario s → (h : List Entry) → IsRun s.lines s.programs (turns_of (length s.lines.threads) s.plan) h → All (IsEntry s.lines) h
 entries_of_run s is h run = λ k e below. (
-  actor_declared s.lines _ (actors_of_turns (λ t. t ≤ length s.lines.threads) (start_running s.lines s.programs) (turns_of s.plan) h (turns_of_scenario s is) run.turned k e below),
+  actor_declared s.lines _ (actors_of_turns (λ t. t ≤ length s.lines.threads) (start_running s.lines s.programs) (turns_of (length s.lines.threads) s.plan) h (turns_of_scenario s is) run.turned k e below),
   names_of_legal s.lines (start s.lines) h (record { pairs = refl; completions = refl }) run.legal k e below,
 )

@@ -1,5 +1,5 @@
 -- The history text of a scenario.
-use Rattle.std.specs.Prelude.{ℕ, ◌≡◌, List}
+use Rattle.std.specs.Prelude.{ℕ, ◌≡◌, List, length}
 use Rattle.verbs_model.specs.declared.entry.Entry.{Entry}
 use Rattle.scenario_text.specs.declared.scenario.ScenarioParts.{ScenarioParts}
 use Rattle.scenario_text.specs.declared.fault.ScenarioFault.{ScenarioFault}
@@ -18,7 +18,7 @@ pub record IsHistoryOf (text history : List ℕ) : Type 0 where
   pub entries : List Entry
   pub spells : Spells text scenario
   -- a legal history, in which each thread's calls are answered in order, and which the turns of the schedule make
-  pub run : IsRun scenario.lines scenario.programs (turns_of scenario.plan) entries
+  pub run : IsRun scenario.lines scenario.programs (turns_of (length scenario.lines.threads) scenario.plan) entries
   pub printed : history ≡ history_text scenario.lines entries
 
 -- the first path has one refusal for a text outside its grammar

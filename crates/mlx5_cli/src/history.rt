@@ -1,5 +1,5 @@
 //! From the text of a scenario to the text of a history.
-ghost use Rattle.std.specs.Prelude.{IfOk, IfErr};
+ghost use Rattle.std.specs.Prelude.{IfOk, IfErr, length};
 ghost use Rattle.scenario_text.specs.Limits.{turns_of};
 ghost use Rattle.world_core.specs.World.{IsRun};
 ghost use Rattle.mlx5_cli.specs.History.{IsHistoryOf, Refuses};
@@ -60,7 +60,7 @@ pub fn history_of(alloc: Global, text: &[u8]) -> Result<Vec<u8>, Refusal>
 
 /// Makes all turns of the scenario's schedule.
 fn run_of(alloc: Global, scenario: &Scenario) -> Result<Outcome, NoMemory>
-    ensures { IfOk result (λ o. IsRun scenario.now.lines scenario.now.programs (turns_of scenario.now.plan) o.history) }
+    ensures { IfOk result (λ o. IsRun scenario.now.lines scenario.now.programs (turns_of (length scenario.now.lines.threads) scenario.now.plan) o.history) }
 {
     let mut world = World::from_scenario(alloc, scenario)?;
     world.run_schedule();

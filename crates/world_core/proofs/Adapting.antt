@@ -1,194 +1,219 @@
 -- The adapter's turns.
-use Rattle.std.proofs.Common.{◌≡◌, ℕ, zero, suc, ◌+◌, ◌<◌, ◌≤◌, ◌==◌, ◌⊎◌, inl, inr, Bool, true, false, List, [], ◌∷◌, ◌++◌, length, map, refl, sym, ◌∙◌, ap, subst, arith, Option, None, Some, slice_index_or, length-append, append-nil}
-use Rattle.std.specs.List.{All}
+use Rattle.std.proofs.Common.{◌≡◌, ◌≢◌, ℕ, zero, suc, ◌+◌, ◌-◌, ◌<◌, ◌≤◌, ◌==◌, ◌&&◌, nat_lt, Bool, true, false, if◌then◌else◌, List, [], ◌∷◌, ◌++◌, length, map, refl, sym, ◌∙◌, ap, subst, arith, Option, None, Some, slice_get, slice_set}
+use Rattle.std.specs.List.{AllByRecursion}
 use Rattle.std.specs.Option.{option_to_list}
-use Rattle.std.proofs.lemmas.Bool.{eqb-true}
-use Rattle.std.proofs.lemmas.List.{length-map}
+use Rattle.std.proofs.lemmas.List.{length-append}
+use Rattle.std.proofs.lemmas.Bool.{and_parts, and_from, false≢true, ltb-true, ltb-false, lt-ltb}
 use Rattle.verbs_model.specs.declared.call.Call.{Call}
 use Rattle.verbs_model.specs.declared.completion.Queue.TheVariants.{Send}
 use Rattle.verbs_model.specs.declared.declaration.Lines.{Lines}
 use Rattle.verbs_model.specs.declared.declaration.TheConstants.{FIRST_QP}
 use Rattle.verbs_model.specs.declared.entry.What.{What}
 use Rattle.verbs_model.specs.declared.entry.What.TheVariants.{Fetch, Publish}
-use Rattle.verbs_model.specs.Step.{MayStep, after}
-use Rattle.verbs_model.specs.Answered.{Due}
-use Rattle.verbs_model.specs.Turned.{IsLowest, IsFetched, IsAtRest}
-use Rattle.verbs_model.specs.Rules.{names_living}
-use Rattle.verbs_model.specs.Rows.{nop_completion}
-use Rattle.verbs_model.proofs.Facts.{MayStep_fetch, MayStep_publish, runs_nop}
-use Rattle.scenario_text.specs.Limits.{posted_on}
-use Rattle.world_core.specs.declared.run.Posted.{Posted}
-use Rattle.world_core.specs.declared.run.Done.{Done}
-use Rattle.world_core.specs.declared.run.Progress.{Progress}
+use Rattle.verbs_model.specs.declared.state.Act.{Act}
+use Rattle.verbs_model.specs.declared.state.Act.TheVariants.{Complete}
+use Rattle.verbs_model.specs.declared.state.QpState.{QpState}
+use Rattle.verbs_model.specs.declared.state.QpState.TheVariants.{Reset, Init, Rtr, Rts, Err}
+use Rattle.verbs_model.specs.declared.state.QueuePair.{QueuePair}
+use Rattle.verbs_model.specs.declared.state.Unpolled.{Unpolled}
+use Rattle.verbs_model.specs.Rows as rows
+use Rattle.verbs_model.specs.Rows.{with_queue, with_completions, nop_completion, publish}
+use Rattle.verbs_model.specs.State.{WorkQueue, CompletionQueue, Verbs}
+use Rattle.verbs_model.specs.Step.{after}
+use Rattle.verbs_model.specs.Turned.{IsFetched, IsLowest, IsAtRest}
+use Rattle.verbs_model.proofs.Families.{among}
+use Rattle.world_core.specs.declared.send_queue.Posted.{Posted}
+use Rattle.world_core.specs.declared.completions.Done.{Done}
+use Rattle.world_core.specs.declared.run.Owed.{Owed}
 use Rattle.world_core.specs.declared.turn.Made.TheVariants.{Fetch as FetchMade, Publish as PublishMade}
-use Rattle.world_core.specs.View.{View}
-use Rattle.world_core.specs.Moves.{IsFetch, owed_for}
-use Rattle.world_core.specs.Machine.{the_queue, nop_of, item_of, unpolled_of, verbs_of, acts_of, all_dues, dues_at, running_of}
-use Rattle.world_core.specs.Sound.{Setting, Queues, Sound, none_done}
-use Rattle.world_core.specs.Steps.{MakesEntry, Steps}
-use Rattle.world_core.proofs.Families.{put_same}
-use Rattle.world_core.proofs.Queueing.{after_fetch, after_publish, slice_get_item}
-use Rattle.world_core.proofs.Entries.{running_both}
+use Rattle.world_core.specs.Decoding.{published_at}
+use Rattle.world_core.specs.Kept.{Sends, Completes, kept_completions, unpolled_of, nop_of, item_of, publishing, taking}
+use Rattle.world_core.specs.Machine.{verbs_of, running_of, act_of}
+use Rattle.world_core.specs.Moves.{is_rts, is_ready, IsFirstReady, IsFetch, owed_for}
+use Rattle.world_core.specs.Sane.{IsHomedAct}
+use Rattle.world_core.specs.Sound.{Sound}
+use Rattle.world_core.specs.Steps.{Steps}
+use Rattle.world_core.specs.View.{View, place_of, sends_at, pair_at, completes_at, with_sends, with_completes}
+use Rattle.world_core.proofs.GoesAdapter as going
+use Rattle.world_core.proofs.GoesAdapter.{publish_goes, fetch_goes, is_fetched, owed_by}
+use Rattle.world_core.proofs.Tabling.{has_place, lives_at, sends_is_at, sends_set_at, pair_is_at, completes_is, completes_low, completes_set, kept_publishing}
+use Rattle.world_core.proofs.Published.{Grows, none_grows, publish_grows, all_kept}
+use Rattle.world_core.proofs.Standing.{stands_completes, stands_owed, stands_sends}
+use Rattle.world_core.proofs.Entries.{dues_in, most_on, adapter_steps, rest_steps}
 
-pub posted_length : (w : View) → length (map item_of w.posted) ≡ length w.posted
-posted_length w = simp length-map
+module _ (d : Lines) (programs : List (List Call)) (w : View) (sound : Sound d programs w) where
+  abbrev v : Verbs
+  v = verbs_of d w
 
-pub adapter_entry : (d : Lines) (programs : List (List Call)) (w w' : View) (what : What) → MayStep (verbs_of d w) (record { actor = 0; what = what }) → IsLowest (verbs_of d w) what → after (verbs_of d w) what ≡ verbs_of d w' → w'.threads ≡ w.threads
-    → MakesEntry (running_of d programs w) (record { actor = 0; what = what }) (running_of d programs w')
-adapter_entry d programs w w' what legal lowest queues threads =
-    let owed : ℕ → List Due = dues_at (all_dues programs w.threads) in record {
-      legal = legal;
-      due = tt;
-      lowest = lowest;
-      after = running_both _ _ _ _ queues (put_same (λ (m n : ℕ). m == n) owed 0 [] (λ j e. eqb-true j 0 e) refl ∙ ap (λ (ts : List Progress). dues_at (all_dues programs ts)) (sym threads));
-    }
+  -- The completion that is owed
 
--- a queue pair that lives is the one
-fetched_where : (d : Lines) (programs : List (List Call)) (w : View) (qp : ℕ) → Setting d programs → (qp ≡ FIRST_QP → w.taken ≡ length w.posted) → IsFetched (verbs_of d w) qp
-fetched_where d programs w qp s taken lives sends =
-    let one : qp ≡ FIRST_QP = s.alone qp lives in
-    subst (λ (n : ℕ). ((verbs_of d w).queues (Send n)).taken ≡ length ((verbs_of d w).queues (Send n)).posted) (sym one) (taken one ∙ sym (posted_length w))
+  module _ (o : Owed) (is : w.owed ≡ Some o) where
+    abbrev u : Unpolled
+    u = unpolled_of o.done
 
-pub adapter_rests : (d : Lines) (programs : List (List Call)) (w : View) → Setting d programs → w.owed ≡ None → w.taken ≡ length w.posted → IsAtRest (running_of d programs w) 0
-adapter_rests d programs w s idle taken = (ap acts_of idle, λ qp. fetched_where d programs w qp s (λ _. taken))
+    abbrev c : Completes
+    c = completes_at w.completions o.cq
 
-lowest_fetch : (d : Lines) (programs : List (List Call)) (w : View) (number : ℕ) → Setting d programs → IsLowest (verbs_of d w) (Fetch the_queue number)
-lowest_fetch d programs w number s lower below = fetched_where d programs w lower s (λ one. absurd (omega (arith, below, one)))
+    owed : v.owed ≡ Complete o.cq u ∷ []
+    owed = ap (λ (x : Option Owed). option_to_list (act_of x)) is
 
-owed_length : (p : Posted) (number : ℕ) → length (option_to_list (owed_for p number)) ≤ 1
-owed_length p number = by p.wanted
-  where
-    by : (wanted : Bool) → length (option_to_list (owed_for (record p { wanted = wanted }) number)) ≤ 1
-    by true = omega arith
-    by false = omega arith
+    live : v.completions_live o.cq ≡ true
+    live =
+        let home = (subst (AllByRecursion (IsHomedAct v.pair_lives v.pairs)) owed sound.sane.hand).0 in
+        ap v.completions_live (sym home.home) ∙ (sound.sane.lives o.done.qp home.living).home
 
-owed_number : (p : Posted) (number : ℕ) → All (λ (x : Done). x.number ≡ number) (option_to_list (owed_for p number))
-owed_number p number = by p.wanted
-  where
-    by : (wanted : Bool) → All (λ (x : Done). x.number ≡ number) (option_to_list (owed_for (record p { wanted = wanted }) number))
-    by true = λ k other low. let first : k ≡ 0 = omega (arith, low) in subst (λ (i : ℕ). (slice_index_or (record { id = p.id; number = number } ∷ []) i other).number ≡ number) (sym first) refl
-    by false = λ k other low. absurd (omega (arith, low))
+    pub publish_low : o.cq < length w.completions
+    publish_low = completes_low d w o.cq live
 
-queues_fetch : (d : Lines) (total : ℕ) (w : View) (p : Posted) → Queues d total w → w.taken < length w.posted → w.owed ≡ None → Queues d total (record w { taken = w.taken + 1; owed = owed_for p (w.taken + 1) })
-queues_fetch d total w p q there idle = record {
-  room = q.room;
-  small_room = q.small_room;
-  posted = q.posted;
-  posted_room = q.posted_room;
-  published_room = q.published_room;
-  outstanding = q.outstanding;
-  taken = omega (arith, there);
-  published = omega (arith, q.published, owed_length p (w.taken + 1));
-  ascending = q.ascending;
-  numbers = λ i. omega (arith, q.numbers i);
-  owed = owed_number p (w.taken + 1);
-  retired = omega (arith, q.retired);
-  unretired = q.unretired;
-  polled = q.polled;
-}
+    pub publish_room : length c.published < c.room
+    publish_room =
+        let same : v.completions o.cq ≡ kept_completions c = completes_is d w o.cq live in
+        let produced : (v.completions o.cq).produced ≡ length c.published = ap (λ (x : CompletionQueue). x.produced) same in
+        let size : (v.completions o.cq).size ≡ c.size = ap (λ (x : CompletionQueue). x.size) same in
+        omega (arith, produced, size, going.publish_room (length d.qps) (most_on programs) v (dues_in programs w) o.cq u [] sound.sane owed, sound.stands.published_room o.cq)
 
-pub fetch_steps : (d : Lines) (programs : List (List Call)) (w w' : View) → Setting d programs → Sound d programs w → w.taken < length w.posted → w.owed ≡ None → IsFetch w w' → Steps d programs w 0 (Some (FetchMade (w.taken + 1))) w'
-fetch_steps d programs w w' s sound there idle f =
-    let p : Posted = f.request in
-    let now : View = record w { taken = w.taken + 1; owed = owed_for p (w.taken + 1) } in
-    let posted : w.taken + 1 ≤ length (map item_of w.posted) = rw (posted_length w) (omega (arith, there)) in
-    let legal : MayStep (verbs_of d w) (record { actor = 0; what = Fetch the_queue (w.taken + 1) }) = MayStep_fetch {v = verbs_of d w} {queue = the_queue} (record {
-      adapter = refl;
-      lives = s.pair;
-      idle = ap acts_of idle;
-      next = refl;
-      posted = posted;
-      content = runs_nop (verbs_of d w) FIRST_QP (w.taken + 1) (nop_of p) s.sends (slice_get_item w p f.there) refl;
-    }) in
-    let steps : Steps d programs w 0 (Some (FetchMade (w.taken + 1))) now = record {
-      sound = record { threads = sound.threads; queues = queues_fetch d (posted_on FIRST_QP programs) w p sound.queues there idle; owing = record { posts = sound.owing.posts; poster = sound.owing.poster; accepts = sound.owing.accepts; retires = sound.owing.retires } };
-      turns = adapter_entry d programs w now (Fetch the_queue (w.taken + 1)) legal (lowest_fetch d programs w (w.taken + 1) s) (after_fetch d w p f.there s.sends s.completes) refl;
-      within = tt;
-      more = [];
-      grows = sym (append-nil w.published);
-    } in
-    subst (λ (v : View). Steps d programs w 0 (Some (FetchMade (w.taken + 1))) v) (sym f.now_is) steps
+    abbrev published : View
+    published = record w { owed = None; completions = slice_set w.completions o.cq (publishing c o.done) }
 
--- the number at a place among those published, or the new one's
-number_push : (w : View) (x : Done) (i : ℕ) → ((i < length w.published) × (slice_index_or (w.published ++ x ∷ []) i none_done ≡ slice_index_or w.published i none_done)) ⊎ ((i ≡ length w.published) × (slice_index_or (w.published ++ x ∷ []) i none_done ≡ x)) ⊎ ((length w.published < i) × (slice_index_or (w.published ++ x ∷ []) i none_done ≡ none_done))
-number_push w x i = push_at w.published i
-  where
-    push_at : (xs : List Done) (n : ℕ) → ((n < length xs) × (slice_index_or (xs ++ x ∷ []) n none_done ≡ slice_index_or xs n none_done)) ⊎ ((n ≡ length xs) × (slice_index_or (xs ++ x ∷ []) n none_done ≡ x)) ⊎ ((length xs < n) × (slice_index_or (xs ++ x ∷ []) n none_done ≡ none_done))
-    push_at [] zero = inr (inl (refl, refl))
-    push_at [] (suc n) = inr (inr (omega arith, refl))
-    push_at (y ∷ ys) zero = inl (omega arith, refl)
-    push_at (y ∷ ys) (suc n) =
-        elim (push_at ys n) [
-          | inl h ↦ inl (omega (arith, h.0), h.1)
-          | inr more ↦ elim more [ inl h ↦ inr (inl (ap suc h.0, h.1)) | inr h ↦ inr (inr (omega (arith, h.0), h.1)) ]
-        ]
+    grows : Grows w.completions published.completions
+    grows = publish_grows w.completions o.cq o.done publish_low
 
-queues_publish : (d : Lines) (total : ℕ) (w : View) (x : Done) → Queues d total w → w.owed ≡ Some x → x.number ≡ w.taken → Queues d total (record w { owed = None; published = w.published ++ x ∷ [] })
-queues_publish d total w x q owed number =
-    let long : length (w.published ++ x ∷ []) ≡ length w.published + 1 = length-append w.published (x ∷ []) in
-    let one : length (option_to_list w.owed) ≡ 1 = ap (λ (o : Option Done). length (option_to_list o)) owed in record {
-      room = q.room;
-      small_room = q.small_room;
-      posted = q.posted;
-      posted_room = q.posted_room;
-      published_room = q.published_room;
-      outstanding = q.outstanding;
-      taken = q.taken;
-      published = omega (arith, q.published, long, one);
-      ascending = λ i j le low. elim (number_push w x i) [
-        | inl h ↦ elim (number_push w x j) [
-          | inl k ↦ omega (arith, q.ascending i j le k.0, ap (λ (y : Done). y.number) h.1, ap (λ (y : Done). y.number) k.1)
-          | inr more ↦ elim more [
-            | inl k ↦ omega (arith, q.numbers i, number, ap (λ (y : Done). y.number) h.1, ap (λ (y : Done). y.number) k.1)
-            | inr k ↦ absurd (omega (arith, low, long, k.0))
-          ]
-        ]
-        | inr more ↦ elim more [
-          | inl h ↦ elim (number_push w x j) [
-            | inl k ↦ absurd (omega (arith, k.0, h.0, le))
-            | inr far ↦ elim far [
-              | inl k ↦ omega (arith, ap (λ (y : Done). y.number) h.1, ap (λ (y : Done). y.number) k.1)
-              | inr k ↦ absurd (omega (arith, low, long, k.0))
-            ]
-          ]
-          | inr h ↦ absurd (omega (arith, h.0, le, low, long))
-        ]
-      ];
-      numbers = λ i. elim (number_push w x i) [
-        | inl h ↦ omega (arith, q.numbers i, ap (λ (y : Done). y.number) h.1)
-        | inr more ↦ elim more [ inl h ↦ omega (arith, number, ap (λ (y : Done). y.number) h.1) | inr h ↦ omega (arith, ap (λ (y : Done). y.number) h.1) ]
-      ];
-      owed = λ k other low. absurd (omega (arith, low));
-      retired = q.retired;
-      unretired = λ i from low. elim (number_push w x i) [
-        | inl h ↦ omega (arith, q.unretired i from h.0, ap (λ (y : Done). y.number) h.1)
-        | inr more ↦ elim more [ inl h ↦ omega (arith, q.retired, number, ap (λ (y : Done). y.number) h.1) | inr h ↦ absurd (omega (arith, low, long, h.0)) ]
-      ];
-      polled = omega (arith, q.polled, long);
-    }
+    -- the completion queue with one more, and empty hands
+    abbrev one_more : CompletionQueue → Verbs
+    one_more x = record (with_completions v o.cq (record x { produced = x.produced + 1; unpolled = x.unpolled ++ u ∷ [] })) { owed = [] }
 
-pub publish_steps : (d : Lines) (programs : List (List Call)) (w w' : View) (x : Done) → Setting d programs → Sound d programs w → w.owed ≡ Some x → w' ≡ record w { owed = None; published = w.published ++ x ∷ [] } → Steps d programs w 0 (Some (PublishMade x.id)) w'
-publish_steps d programs w w' x s sound owed e =
-    let q = sound.queues in
-    let now : View = record w { owed = None; published = w.published ++ x ∷ [] } in
-    let number : x.number ≡ w.taken = subst (λ (o : Option Done). All (λ (y : Done). y.number ≡ w.taken) (option_to_list o)) owed q.owed 0 none_done (omega arith) in
-    let one : length (option_to_list w.owed) ≡ 1 = ap (λ (o : Option Done). length (option_to_list o)) owed in
-    let named : names_living (verbs_of d w) (nop_completion FIRST_QP x.id 0) ≡ true = rw s.pair refl in
-    let legal : MayStep (verbs_of d w) (record { actor = 0; what = Publish 0 (nop_completion FIRST_QP x.id 0) }) = MayStep_publish {v = verbs_of d w} (record {
-      adapter = refl;
-      lives = s.queue;
-      named = named;
-      first = unpolled_of x;
-      others = [];
-      owed = ap acts_of owed;
-      room = omega (arith, q.published, one, q.taken, q.posted, s.fits);
-      content = refl;
-    }) in
-    let steps : Steps d programs w 0 (Some (PublishMade x.id)) now = record {
-      sound = record { threads = sound.threads; queues = queues_publish d (posted_on FIRST_QP programs) w x q owed number; owing = record { posts = sound.owing.posts; poster = sound.owing.poster; accepts = sound.owing.accepts; retires = sound.owing.retires } };
-      turns = adapter_entry d programs w now (Publish 0 (nop_completion FIRST_QP x.id 0)) legal tt (after_publish d w x q.polled owed) refl;
-      within = tt;
-      more = x ∷ [];
-      grows = refl;
-    } in
-    subst (λ (v : View). Steps d programs w 0 (Some (PublishMade x.id)) v) (sym e) steps
+    publish_queues : publish v o.cq v.owed ≡ verbs_of d published
+    publish_queues =
+        ap (publish v o.cq) owed
+        ∙ ap one_more (completes_is d w o.cq live)
+        ∙ ap (λ (x : CompletionQueue). record (with_completions v o.cq x) { owed = [] }) (sym (kept_publishing c o.done (sound.stands.polled o.cq)))
+        ∙ sym (completes_set d (record w { owed = None }) o.cq (publishing c o.done) live)
+
+    longer : c.polled ≤ length (publishing c o.done).published
+    longer = let long : length (c.published ++ o.done ∷ []) ≡ length c.published + 1 = simp (length-append) in omega (arith, long, sound.stands.polled o.cq)
+
+    pub publish_steps : (w' : View) → w' ≡ published → Steps d programs w 0 (Some (PublishMade o.cq o.done.qp o.done.id)) w'
+    publish_steps w' now =
+        adapter_steps d programs w w' published (Publish o.cq (nop_completion o.done.qp o.done.id 0)) (PublishMade o.cq o.done.qp o.done.id) sound
+        (record {
+          stands = stands_owed d programs (with_completes w o.cq (publishing c o.done)) (stands_completes d programs w sound.stands o.cq (publishing c o.done) publish_low refl refl longer grows) None;
+          same = all_kept programs w.completions published.completions w.threads grows sound.stands.settles;
+          lowest = tt;
+          goes = publish_goes (length d.qps) (most_on programs) v (dues_in programs w) o.cq u [] sound.sane owed (nop_completion o.done.qp o.done.id 0) refl;
+          queues = publish_queues;
+          grows = grows;
+        })
+        refl
+        tt
+        now
+
+  -- The next request
+
+  rts_is : (s : QpState) → is_rts s ≡ true → s ≡ Rts
+  rts_is Rts e = refl
+  rts_is Reset e = absurd (false≢true e)
+  rts_is Init e = absurd (false≢true e)
+  rts_is Rtr e = absurd (false≢true e)
+  rts_is Err e = absurd (false≢true e)
+
+  ready_not : (place : ℕ) → (pair_at w.pairs place).state ≡ Rts → is_ready w place ≡ false → length (sends_at w.queues place).queue.posted ≤ (sends_at w.queues place).queue.taken
+  ready_not place sends none =
+      let more : nat_lt (sends_at w.queues place).queue.taken (length (sends_at w.queues place).queue.posted) ≡ false = sym (ap (λ (s : QpState). is_rts s && nat_lt (sends_at w.queues place).queue.taken (length (sends_at w.queues place).queue.posted)) sends) ∙ none in
+      ltb-false _ _ more
+
+  -- a queue pair at a place before which none is ready
+  fetched_at : (qp : ℕ) → (v.pair_lives qp ≡ true → is_ready w (place_of qp) ≡ false) → IsFetched v qp
+  fetched_at qp ready lives sends =
+      let p = has_place d programs w sound.stands qp lives in
+      let number : FIRST_QP + place_of qp ≡ qp = p.number in
+      let queue : v.queues (Send qp) ≡ (sends_at w.queues (place_of qp)).queue = ap (λ k. v.queues (Send k)) (sym number) ∙ sends_is_at d programs w sound.stands (place_of qp) p.low in
+      let pair : v.pairs qp ≡ pair_at w.pairs (place_of qp) = ap v.pairs (sym number) ∙ pair_is_at d programs w sound.stands (place_of qp) p.low in
+      let far = ready_not (place_of qp) (sym (ap (λ (x : QueuePair). x.state) pair) ∙ sends) (ready lives) in
+      let taken : (v.queues (Send qp)).taken ≡ (sends_at w.queues (place_of qp)).queue.taken = ap (λ (x : WorkQueue). x.taken) queue in
+      let posted : length (v.queues (Send qp)).posted ≡ length (sends_at w.queues (place_of qp)).queue.posted = ap (λ (x : WorkQueue). length x.posted) queue in
+      omega (arith, far, taken, posted, (sound.sane.queues qp).taken)
+
+  pub adapter_rests : w.owed ≡ None → ((k : ℕ) → k < length w.queues → is_ready w k ≡ false) → Steps d programs w 0 None w
+  adapter_rests idle none =
+      rest_steps d programs w 0 sound (ap (λ (x : Option Owed). option_to_list (act_of x)) idle, λ qp. fetched_at qp (λ lives. none (place_of qp) (has_place d programs w sound.stands qp lives).low))
+
+  module _ (place : ℕ) (first : IsFirstReady w place) (idle : w.owed ≡ None) where
+    abbrev qp : ℕ
+    qp = FIRST_QP + place
+
+    abbrev s : Sends
+    s = sends_at w.queues place
+
+    ready_parts : (is_rts (pair_at w.pairs place).state ≡ true) × (nat_lt s.queue.taken (length s.queue.posted) ≡ true)
+    ready_parts = and_parts _ _ first.ready
+
+    pub fetch_more : s.queue.taken < length s.queue.posted
+    fetch_more = ltb-true _ _ ready_parts.1
+
+    sends_now : (pair_at w.pairs place).state ≡ Rts
+    sends_now = rts_is (pair_at w.pairs place).state ready_parts.0
+
+    queue_is : v.queues (Send qp) ≡ s.queue
+    queue_is = sends_is_at d programs w sound.stands place first.low
+
+    pair_is : v.pairs qp ≡ pair_at w.pairs place
+    pair_is = pair_is_at d programs w sound.stands place first.low
+
+    lowest : (lower : ℕ) → lower < qp → IsFetched v lower
+    lowest lower below = fetched_at lower (λ lives. let p = has_place d programs w sound.stands lower lives in first.lower (place_of lower) (omega (arith, below, p.number)))
+
+    owed_either : (p : Posted) (number cq : ℕ) (b : Bool) → (if b then Complete cq (record { completion = nop_completion qp p.id 0; number = number }) ∷ [] else []) ≡ option_to_list (act_of (owed_for cq qp (record p { wanted = b }) number))
+    owed_either p number cq true = refl
+    owed_either p number cq false = refl
+
+    module _ (p : Posted) (there : slice_get s.queue.posted s.queue.taken ≡ Some (item_of p)) where
+      abbrev number : ℕ
+      number = (v.queues (Send qp)).taken + 1
+
+      there_is : slice_get (v.queues (Send qp)).posted (v.queues (Send qp)).taken ≡ Some (item_of p)
+      there_is = ap (λ (x : WorkQueue). slice_get x.posted x.taken) queue_is ∙ there
+
+      more_is : (v.queues (Send qp)).taken < length (v.queues (Send qp)).posted
+      more_is =
+          let taken : (v.queues (Send qp)).taken ≡ s.queue.taken = ap (λ (x : WorkQueue). x.taken) queue_is in
+          let posted : length (v.queues (Send qp)).posted ≡ length s.queue.posted = ap (λ (x : WorkQueue). length x.posted) queue_is in
+          omega (arith, taken, posted, fetch_more)
+
+      idle_is : v.owed ≡ []
+      idle_is = ap (λ (x : Option Owed). option_to_list (act_of x)) idle
+
+      state_is : (v.pairs qp).state ≡ Rts
+      state_is = ap (λ (x : QueuePair). x.state) pair_is ∙ sends_now
+
+      number_is : number ≡ s.queue.taken + 1
+      number_is = ap (λ (x : WorkQueue). x.taken + 1) queue_is
+
+      abbrev fetched : View
+      fetched = record (with_sends w place (taking s)) { owed = owed_for (pair_at w.pairs place).send_cq qp p (s.queue.taken + 1) }
+
+      fetch_queues : after v (Fetch (Send qp) number) ≡ verbs_of d fetched
+      fetch_queues =
+          is_fetched (length d.qps) (most_on programs) v (dues_in programs w) qp (nop_of p) sound.sane (lives_at d programs w sound.stands place first.low) state_is idle_is there_is more_is
+          ∙ ap (λ (x : WorkQueue). record (with_queue v (Send qp) (rows.take x (x.taken + 1))) { owed = owed_by (v.pairs qp) qp (x.taken + 1) (nop_of p) }) queue_is
+          ∙ ap (λ (x : QueuePair). record (with_queue v (Send qp) (taking s).queue) { owed = owed_by x qp (s.queue.taken + 1) (nop_of p) }) pair_is
+          ∙ ap (λ (acts : List Act). record (with_queue v (Send qp) (taking s).queue) { owed = acts }) (owed_either p (s.queue.taken + 1) (pair_at w.pairs place).send_cq p.wanted)
+          ∙ ap (λ (x : Verbs). record x { owed = option_to_list (act_of fetched.owed) }) (sym (sends_set_at d programs w sound.stands place first.low (taking s)))
+
+      fetch_now : Steps d programs w 0 (Some (FetchMade qp (s.queue.taken + 1))) fetched
+      fetch_now =
+          subst (λ n. Steps d programs w 0 (Some (FetchMade qp n)) fetched) number_is
+          (adapter_steps d programs w fetched fetched (Fetch (Send qp) number) (FetchMade qp number) sound
+          (record {
+            stands = stands_owed d programs (with_sends w place (taking s)) (stands_sends d programs w sound.stands place (taking s) first.low (record { posted = refl; ends = refl; room = refl })) fetched.owed;
+            same = refl;
+            lowest = lowest;
+            goes = fetch_goes (length d.qps) (most_on programs) v (dues_in programs w) qp (nop_of p) sound.sane (lives_at d programs w sound.stands place first.low) state_is idle_is there_is more_is;
+            queues = fetch_queues;
+            grows = none_grows w.completions;
+          })
+          refl
+          tt
+          refl)
+
+    pub fetch_steps : (w' : View) → IsFetch w place w' → Steps d programs w 0 (Some (FetchMade qp (s.queue.taken + 1))) w'
+    fetch_steps w' f = subst (Steps d programs w 0 (Some (FetchMade qp (s.queue.taken + 1)))) (sym f.now_is) (fetch_now f.request f.there)

@@ -9,25 +9,26 @@ use Rattle.verbs_model.specs.declared.call.Call.{Call}
 use Rattle.verbs_model.specs.Family.{put}
 use Rattle.verbs_model.specs.Answered.{Due}
 use Rattle.world_core.specs.declared.run.Progress.{Progress}
+use Rattle.world_core.specs.Kept.{Completes}
 use Rattle.world_core.specs.Machine.{dues_of, all_dues, dues_at}
-use Rattle.world_core.specs.Sound.{over_dues}
+use Rattle.world_core.specs.Sane.{over_dues}
 
-pub length-all_dues : (programs : List (List Call)) (threads : List Progress) → length threads ≡ length programs → length (all_dues programs threads) ≡ length programs
-length-all_dues [] threads e = refl
-length-all_dues (calls ∷ programs) [] e = absurd (omega (arith, e))
-length-all_dues (calls ∷ programs) (p ∷ threads) e = ap suc (length-all_dues programs threads (omega (arith, e)))
+pub length-all_dues : (programs : List (List Call)) (cs : List Completes) (threads : List Progress) → length threads ≡ length programs → length (all_dues programs cs threads) ≡ length programs
+length-all_dues [] cs threads e = refl
+length-all_dues (calls ∷ programs) cs [] e = absurd (omega (arith, e))
+length-all_dues (calls ∷ programs) cs (p ∷ threads) e = ap suc (length-all_dues programs cs threads (omega (arith, e)))
 
-pub all_dues-set : (programs : List (List Call)) (threads : List Progress) (t : ℕ) (p : Progress) → t < length threads → length threads ≡ length programs → all_dues programs (slice_set threads t p) ≡ slice_set (all_dues programs threads) t (dues_of (slice_index_or programs t []) p)
-all_dues-set [] threads t p low e = absurd (omega (arith, low, e))
-all_dues-set (calls ∷ programs) [] t p low e = absurd (omega (arith, e))
-all_dues-set (calls ∷ programs) (q ∷ threads) zero p low e = refl
-all_dues-set (calls ∷ programs) (q ∷ threads) (suc t) p low e = ap (λ rest. dues_of calls q ∷ rest) (all_dues-set programs threads t p (omega (arith, low)) (omega (arith, e)))
+pub all_dues-set : (programs : List (List Call)) (cs : List Completes) (threads : List Progress) (t : ℕ) (p : Progress) → t < length threads → length threads ≡ length programs → all_dues programs cs (slice_set threads t p) ≡ slice_set (all_dues programs cs threads) t (dues_of (slice_index_or programs t []) cs p)
+all_dues-set [] cs threads t p low e = absurd (omega (arith, low, e))
+all_dues-set (calls ∷ programs) cs [] t p low e = absurd (omega (arith, e))
+all_dues-set (calls ∷ programs) cs (q ∷ threads) zero p low e = refl
+all_dues-set (calls ∷ programs) cs (q ∷ threads) (suc t) p low e = ap (λ rest. dues_of calls cs q ∷ rest) (all_dues-set programs cs threads t p (omega (arith, low)) (omega (arith, e)))
 
-pub all_dues-at : (programs : List (List Call)) (threads : List Progress) (t : ℕ) (p : Progress) → t < length threads → length threads ≡ length programs → slice_index_or (all_dues programs threads) t [] ≡ dues_of (slice_index_or programs t []) (slice_index_or threads t p)
-all_dues-at [] threads t p low e = absurd (omega (arith, low, e))
-all_dues-at (calls ∷ programs) [] t p low e = absurd (omega (arith, e))
-all_dues-at (calls ∷ programs) (q ∷ threads) zero p low e = refl
-all_dues-at (calls ∷ programs) (q ∷ threads) (suc t) p low e = all_dues-at programs threads t p (omega (arith, low)) (omega (arith, e))
+pub all_dues-at : (programs : List (List Call)) (cs : List Completes) (threads : List Progress) (t : ℕ) (p : Progress) → t < length threads → length threads ≡ length programs → slice_index_or (all_dues programs cs threads) t [] ≡ dues_of (slice_index_or programs t []) cs (slice_index_or threads t p)
+all_dues-at [] cs threads t p low e = absurd (omega (arith, low, e))
+all_dues-at (calls ∷ programs) cs [] t p low e = absurd (omega (arith, e))
+all_dues-at (calls ∷ programs) cs (q ∷ threads) zero p low e = refl
+all_dues-at (calls ∷ programs) cs (q ∷ threads) (suc t) p low e = all_dues-at programs cs threads t p (omega (arith, low)) (omega (arith, e))
 
 at_suc : (dues : List (List Due)) (t j : ℕ) (ds : List Due) → t < length dues → (b : Bool) → (suc j == suc t) ≡ b → slice_index_or (slice_set dues t ds) j [] ≡ (if b then ds else slice_index_or dues j [])
 at_suc dues t j ds low true e = let same : j ≡ t = omega (arith, eqb-true (suc j) (suc t) e) in rw same (get_or-set_same dues t ds [] low)

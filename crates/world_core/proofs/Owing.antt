@@ -1,98 +1,94 @@
--- What the threads owe stays in bounds as one of them goes on.
-use Rattle.std.proofs.Common.{◌≡◌, ◌≢◌, ℕ, zero, suc, ◌+◌, ◌<◌, ◌≤◌, ◌⊎◌, inl, inr, Bool, true, false, ◌==◌, List, [], ◌∷◌, ◌++◌, length, replicate, refl, sym, ◌∙◌, ap, subst, arith, slice_index_or, slice_set}
-use Rattle.std.proofs.lemmas.Bool.{eq-eqb, eqb-true, false≢true}
+-- What the threads owe stays proper as one of them goes on.
+use Rattle.std.proofs.Common.{◌≡◌, ◌≢◌, ℕ, zero, suc, ◌+◌, ◌<◌, ◌≤◌, ◌⊎◌, inl, inr, Bool, true, false, ◌||◌, List, [], ◌∷◌, ◌++◌, length, refl, sym, ◌∙◌, ap, subst, arith, slice_index_or, slice_set}
+use Rattle.std.specs.List.{list_any, AllByRecursion}
+use Rattle.std.proofs.lemmas.Bool.{false≢true}
 use Rattle.std.proofs.lemmas.List.{get_or-set_same, get_or-set_other}
-use Rattle.std.specs.List.{flat_map, sum_by, list_any}
-use Rattle.verbs_model.specs.declared.call.Call.{Call}
-use Rattle.verbs_model.specs.declared.call.Call.TheVariants.{Post as PostCall, Poll as PollCall, Drain}
-use Rattle.verbs_model.specs.Answered.{Due, Accepting, Draining, due_by}
-use Rattle.world_core.specs.View.{View}
-use Rattle.world_core.specs.Sound.{Owing, AcceptFits, items_due, posts_due, retires_due, free_of}
-use Rattle.world_core.proofs.Dues.{over_dues-set}
+use Rattle.std.proofs.Math.ListN.{length-set}
+use Rattle.verbs_model.specs.declared.completion.Queue.{Queue}
+use Rattle.verbs_model.specs.declared.completion.Queue.TheVariants.{Send}
+use Rattle.verbs_model.specs.declared.request.Item.{Item}
+use Rattle.verbs_model.specs.Same.{same_queue}
+use Rattle.verbs_model.proofs.Sameness.{same_queue_refl}
+use Rattle.verbs_model.specs.Answered.{Due, Posting, Accepting, Polling, Draining, Retiring, Acking}
+use Rattle.world_core.specs.Sane.{Owing, OnePosts, AreProper, IsProper, IsNext, FitsNow, Owes, dues_of_thread, posts_on}
+use Rattle.world_core.proofs.Choices.{either}
 
-either_by : (j t : ℕ) (b : Bool) → (j == t) ≡ b → (j ≡ t) ⊎ (j ≢ t)
-either_by j t true e = inl (eqb-true j t e)
-either_by j t false e = inr (λ same. absurd (false≢true (sym e ∙ eq-eqb j t same)))
+-- of a thread that owes other entries
+module _ (pairs cqs : ℕ → Bool) (free free' : ℕ → ℕ) where
+  room_by : (qp : ℕ) (queue : Queue) (items : List Item) (ds : List Due) → queue ≡ Send qp → length items ≤ free qp → (free qp ≤ free' qp) ⊎ (list_any (posts_on qp) (Accepting queue items ∷ ds) ≡ false) → length items ≤ free' qp
+  room_by qp queue items ds is room (inl le) = omega (arith, room, le)
+  room_by qp queue items ds is room (inr none) =
+      let posts : list_any (posts_on qp) (Accepting queue items ∷ ds) ≡ true = ap (λ q. same_queue (Send qp) q || list_any (posts_on qp) ds) is ∙ ap (λ b. b || list_any (posts_on qp) ds) (same_queue_refl (Send qp)) in
+      absurd (false≢true (sym none ∙ posts))
 
-pub either : (j t : ℕ) → (j ≡ t) ⊎ (j ≢ t)
-either j t = either_by j t (j == t) refl
+  pub proper_other : (ds : List Due) → ((qp : ℕ) → (free qp ≤ free' qp) ⊎ (list_any (posts_on qp) ds ≡ false)) → AreProper pairs cqs free ds → AreProper pairs cqs free' ds
+  proper_other [] more h = tt
+  proper_other (Accepting queue items ∷ ds) more h =
+      (record { qp = h.0.qp; is = h.0.is; living = h.0.living; some = h.0.some; nops = h.0.nops; room = room_by h.0.qp queue items ds h.0.is h.0.room (more h.0.qp) }, h.1)
+  proper_other (Posting queue items ∷ ds) more h = h
+  proper_other (Polling cq most ∷ ds) more h = h
+  proper_other (Draining cq ∷ ds) more h = h
+  proper_other (Retiring queue ∷ ds) more h = h
+  proper_other (Acking cq ∷ ds) more h = h
 
--- a post that fits still fits where more may be posted
-fits_more : (free free' : ℕ) (ds : List Due) → free ≤ free' → AcceptFits free ds → AcceptFits free' ds
-fits_more free free' [] le h = tt
-fits_more free free' (Accepting queue items ∷ ds) le h = (h.0, omega (arith, h.1, le))
-fits_more free free' (_ ∷ ds) le h = tt
+-- what follows what is owed next
+pub proper_rest : (pairs cqs : ℕ → Bool) (free : ℕ → ℕ) (ds : List Due) → AllByRecursion (IsProper pairs cqs) ds → AreProper pairs cqs free ds
+proper_rest pairs cqs free [] h = tt
+proper_rest pairs cqs free (Accepting queue items ∷ ds) h = absurd h.0
+proper_rest pairs cqs free (Posting queue items ∷ ds) h = h
+proper_rest pairs cqs free (Polling cq most ∷ ds) h = h
+proper_rest pairs cqs free (Draining cq ∷ ds) h = h
+proper_rest pairs cqs free (Retiring queue ∷ ds) h = h
+proper_rest pairs cqs free (Acking cq ∷ ds) h = h
 
--- a thread that posts nothing has nothing to fit
-fits_none : (free : ℕ) (ds : List Due) → list_any posts_due ds ≡ false → AcceptFits free ds
-fits_none free [] e = tt
-fits_none free (Accepting queue items ∷ ds) e = absurd (false≢true (sym e))
-fits_none free (_ ∷ ds) e = tt
-
-drains_fit : (free count cq : ℕ) (ds : List Due) → AcceptFits free ds → AcceptFits free (replicate count (Draining cq) ++ ds)
-drains_fit free zero cq ds h = h
-drains_fit free (suc count) cq ds h = tt
-
-calls_fit : (free : ℕ) (calls : List Call) → AcceptFits free (flat_map due_by calls)
-calls_fit free [] = tt
-calls_fit free (PostCall qp requests ∷ calls) = tt
-calls_fit free (PollCall cq most ∷ calls) = tt
-calls_fit free (Drain cq count ∷ calls) = drains_fit free count cq (flat_map due_by calls) (calls_fit free calls)
-
--- what a thread owes for calls that it has not begun has nothing to fit
-pub rest_fits : (free count : ℕ) (calls : List Call) → AcceptFits free (replicate count (Draining 0) ++ flat_map due_by calls)
-rest_fits free count calls = drains_fit free count 0 (flat_map due_by calls) (calls_fit free calls)
+pub proper_at : (pairs cqs : ℕ → Bool) (free : ℕ → ℕ) (dues : List (List Due)) (t : ℕ) (due : Due) (rest : List Due) → Owing pairs cqs free dues → Owes dues t due rest → IsNext pairs cqs free due × AllByRecursion (IsProper pairs cqs) rest
+proper_at pairs cqs free dues t due rest o owes = subst (AreProper pairs cqs free) owes.is (o.proper t)
 
 -- one thread's list of dues is replaced
-pub record Replaces (total : ℕ) (w w' : View) (dues : List (List Due)) (t : ℕ) (ds ds' : List Due) : Type 0 where
-  pub low : t < length dues
-  pub at_thread : slice_index_or dues t [] ≡ ds
-  pub items : length w'.posted + sum_by items_due ds' ≤ length w.posted + sum_by items_due ds
-  pub retires : w'.ended + sum_by retires_due ds' + w.polled ≡ w'.polled + w.ended + sum_by retires_due ds
-  pub posts : list_any posts_due ds ≡ false → list_any posts_due ds' ≡ false
-  pub fits : AcceptFits (free_of w') ds'
-  pub others : (free_of w ≤ free_of w') ⊎ (list_any posts_due ds ≡ true)
+pub record Replaces (pairs cqs : ℕ → Bool) (free free' : ℕ → ℕ) (due : Due) (rest ds' : List Due) : Type 0 where
+  pub proper : AreProper pairs cqs free' ds'
+  pub posts : (qp : ℕ) → list_any (posts_on qp) (due ∷ rest) ≡ false → list_any (posts_on qp) ds' ≡ false
+  pub others : (qp : ℕ) → (free qp ≤ free' qp) ⊎ (list_any (posts_on qp) (due ∷ rest) ≡ true)
 
-at_set : (dues : List (List Due)) (t j : ℕ) (ds : List Due) → t < length dues → ((j ≡ t) × (slice_index_or (slice_set dues t ds) j [] ≡ ds)) ⊎ ((j ≢ t) × (slice_index_or (slice_set dues t ds) j [] ≡ slice_index_or dues j []))
+at_set : (dues : List (List Due)) (t j : ℕ) (ds : List Due) → t < length dues → ((j ≡ t) × (dues_of_thread (slice_set dues t ds) j ≡ ds)) ⊎ ((j ≢ t) × (dues_of_thread (slice_set dues t ds) j ≡ dues_of_thread dues j))
 at_set dues t j ds low =
     elim (either j t) [
       | inl same ↦ inl (same, rw same (get_or-set_same dues t ds [] low))
       | inr other ↦ inr (other, get_or-set_other dues t j ds [] other)
     ]
 
-accepts_other : (total : ℕ) (w w' : View) (dues : List (List Due)) (t u : ℕ) (ds : List Due) → u ≢ t → slice_index_or dues t [] ≡ ds → Owing total w dues → (free_of w ≤ free_of w') ⊎ (list_any posts_due ds ≡ true) → AcceptFits (free_of w') (slice_index_or dues u [])
-accepts_other total w w' dues t u ds other at_thread o more =
-    elim more [
-      | inl le ↦ fits_more (free_of w) (free_of w') (slice_index_or dues u []) le (o.accepts u)
-      | inr posts ↦ elim (o.poster u t other) [
-        | inl none ↦ fits_none (free_of w') (slice_index_or dues u []) none
-        | inr none ↦ absurd (false≢true (sym none ∙ ap (list_any posts_due) at_thread ∙ posts))
+poster_after : (dues : List (List Due)) (t : ℕ) (due : Due) (rest ds' : List Due) → Owes dues t due rest → ((qp : ℕ) → list_any (posts_on qp) (due ∷ rest) ≡ false → list_any (posts_on qp) ds' ≡ false) → OnePosts dues → OnePosts (slice_set dues t ds')
+poster_after dues t due rest ds' owes posts one qp u v apart =
+    elim (one qp u v apart) [ inl none ↦ inl (none_at u none) | inr none ↦ inr (none_at v none) ]
+  where
+    none_at : (j : ℕ) → list_any (posts_on qp) (dues_of_thread dues j) ≡ false → list_any (posts_on qp) (dues_of_thread (slice_set dues t ds') j) ≡ false
+    none_at j none =
+        elim (at_set dues t j ds' owes.low) [
+          | inl h ↦ ap (list_any (posts_on qp)) h.1 ∙ posts qp (ap (list_any (posts_on qp)) (sym owes.is ∙ ap (dues_of_thread dues) (sym h.0)) ∙ none)
+          | inr h ↦ ap (list_any (posts_on qp)) h.1 ∙ none
+        ]
+
+others_fit : (free free' : ℕ → ℕ) (dues : List (List Due)) (t u : ℕ) (due : Due) (rest : List Due) → Owes dues t due rest → u ≢ t → OnePosts dues → ((qp : ℕ) → (free qp ≤ free' qp) ⊎ (list_any (posts_on qp) (due ∷ rest) ≡ true))
+    → (qp : ℕ) → (free qp ≤ free' qp) ⊎ (list_any (posts_on qp) (dues_of_thread dues u) ≡ false)
+others_fit free free' dues t u due rest owes other one more qp =
+    elim (more qp) [
+      | inl le ↦ inl le
+      | inr posts ↦ elim (one qp u t other) [
+        | inl none ↦ inr none
+        | inr none ↦ absurd (false≢true (sym none ∙ ap (list_any (posts_on qp)) owes.is ∙ posts))
       ]
     ]
 
-poster_at : (dues : List (List Due)) (t : ℕ) (ds ds' : List Due) (u v : ℕ) → t < length dues → slice_index_or dues t [] ≡ ds → (list_any posts_due ds ≡ false → list_any posts_due ds' ≡ false)
-    → u ≢ v
-    → (list_any posts_due (slice_index_or dues u []) ≡ false) ⊎ (list_any posts_due (slice_index_or dues v []) ≡ false)
-    → (list_any posts_due (slice_index_or (slice_set dues t ds') u []) ≡ false) ⊎ (list_any posts_due (slice_index_or (slice_set dues t ds') v []) ≡ false)
-poster_at dues t ds ds' u v low at_thread posts apart was =
-    elim was [ inl none ↦ inl (none_at u none) | inr none ↦ inr (none_at v none) ]
-  where
-    none_at : (j : ℕ) → list_any posts_due (slice_index_or dues j []) ≡ false → list_any posts_due (slice_index_or (slice_set dues t ds') j []) ≡ false
-    none_at j none =
-        elim (at_set dues t j ds' low) [
-          | inl h ↦ ap (list_any posts_due) h.1 ∙ posts (ap (list_any posts_due) (sym at_thread ∙ ap (λ k. slice_index_or dues k []) (sym h.0)) ∙ none)
-          | inr h ↦ ap (list_any posts_due) h.1 ∙ none
-        ]
+pub owing_after : (pairs cqs : ℕ → Bool) (free free' : ℕ → ℕ) (dues : List (List Due)) (t : ℕ) (due : Due) (rest ds' : List Due) → Owing pairs cqs free dues → Owes dues t due rest → Replaces pairs cqs free free' due rest ds' → Owing pairs cqs free' (slice_set dues t ds')
+owing_after pairs cqs free free' dues t due rest ds' o owes r = record {
+  few = let long : length (slice_set dues t ds') ≡ length dues = length-set dues t ds' in omega (arith, long, o.few);
+  poster = poster_after dues t due rest ds' owes r.posts o.poster;
+  proper = λ u. elim (at_set dues t u ds' owes.low) [
+    | inl h ↦ subst (AreProper pairs cqs free') (sym h.1) r.proper
+    | inr h ↦ subst (AreProper pairs cqs free') (sym h.1) (proper_other pairs cqs free free' (dues_of_thread dues u) (others_fit free free' dues t u due rest owes h.0 o.poster r.others) (o.proper u))
+  ];
+}
 
-pub owing_after : (total : ℕ) (w w' : View) (dues : List (List Due)) (t : ℕ) (ds ds' : List Due) → Owing total w dues → Replaces total w w' dues t ds ds' → Owing total w' (slice_set dues t ds')
-owing_after total w w' dues t ds ds' o r =
-    let items : sum_by items_due (slice_index_or dues t []) ≡ sum_by items_due ds = ap (sum_by items_due) r.at_thread in
-    let retires : sum_by retires_due (slice_index_or dues t []) ≡ sum_by retires_due ds = ap (sum_by retires_due) r.at_thread in record {
-      posts = omega (arith, over_dues-set items_due dues t ds' r.low, items, r.items, o.posts);
-      poster = λ u v apart. poster_at dues t ds ds' u v r.low r.at_thread r.posts apart (o.poster u v apart);
-      accepts = λ u. elim (at_set dues t u ds' r.low) [
-        | inl h ↦ subst (AcceptFits (free_of w')) (sym h.1) r.fits
-        | inr h ↦ subst (AcceptFits (free_of w')) (sym h.1) (accepts_other total w w' dues t u ds h.0 r.at_thread o r.others)
-      ];
-      retires = omega (arith, over_dues-set retires_due dues t ds' r.low, retires, r.retires, o.retires);
-    }
+-- where only the room has changed
+pub owing_free : (pairs cqs : ℕ → Bool) (free free' : ℕ → ℕ) (dues : List (List Due)) → ((qp : ℕ) → free qp ≤ free' qp) → Owing pairs cqs free dues → Owing pairs cqs free' dues
+owing_free pairs cqs free free' dues le o = record { few = o.few; poster = o.poster; proper = λ u. proper_other pairs cqs free free' (dues_of_thread dues u) (λ qp. inl (le qp)) (o.proper u) }

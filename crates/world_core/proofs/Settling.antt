@@ -1,440 +1,419 @@
--- The threads' turns: polls, retirements, acknowledgements, and turns that make nothing.
-use Rattle.std.proofs.Common.{◌≡◌, ℕ, zero, suc, ◌+◌, ◌-◌, ◌<◌, ◌≤◌, inl, true, false, List, [], ◌∷◌, ◌++◌, length, take, drop, map, replicate, refl, sym, ◌∙◌, ap, subst, arith, Some, slice_index_or, slice_set, slice_get, append_assoc, append-nil, min, drop-cons, zero-add}
-use Rattle.std.specs.List.{flat_map, sum_by, list_any, list_all}
+-- The threads' turns: polls and drains, retirements and acknowledgements, and turns that make nothing.
+use Rattle.std.proofs.Common.{◌≡◌, ◌≢◌, ℕ, zero, suc, ◌+◌, ◌-◌, ◌<◌, ◌≤◌, ◌==◌, true, inl, inr, List, [], ◌∷◌, ◌++◌, length, take, drop, map, replicate, refl, sym, ◌∙◌, ap, subst, arith, Some, None, slice_get, slice_index_or, slice_set, min, drop-cons, append_assoc}
+use Rattle.std.specs.List.{flat_map}
 use Rattle.std.proofs.Math.ListN.{drop_of_length-le}
-use Rattle.std.proofs.lemmas.List.{length-map, length-take, length-drop, take-map, set-get_or, get_or-take, take_min}
+use Rattle.std.proofs.lemmas.List.{length-map, length-drop, set-get_or, get_or-set_same}
 use Rattle.std.proofs.lemmas.Option.{get_or_from_slice_get}
 use Rattle.verbs_model.specs.declared.call.Call.{Call}
 use Rattle.verbs_model.specs.declared.call.Call.TheVariants.{Poll as PollCall, Drain}
 use Rattle.verbs_model.specs.declared.completion.Completion.{Completion}
+use Rattle.verbs_model.specs.declared.completion.Queue.TheVariants.{Send}
 use Rattle.verbs_model.specs.declared.declaration.Lines.{Lines}
-use Rattle.verbs_model.specs.declared.declaration.TheConstants.{FIRST_QP}
 use Rattle.verbs_model.specs.declared.entry.What.{What}
 use Rattle.verbs_model.specs.declared.entry.What.TheVariants.{Poll, Retire, Ack}
 use Rattle.verbs_model.specs.declared.state.Unpolled.{Unpolled}
-use Rattle.verbs_model.specs.Rules.{names_living}
-use Rattle.verbs_model.specs.Rows.{rest_of}
-use Rattle.verbs_model.specs.Step.{MayStep}
+use Rattle.verbs_model.specs.Rows as rows
+use Rattle.verbs_model.specs.Rows.{with_queue, with_completions}
+use Rattle.verbs_model.specs.State.{WorkQueue, CompletionQueue, Verbs}
+use Rattle.verbs_model.specs.Step.{after}
 use Rattle.verbs_model.specs.Answered.{Due, Polling, Draining, Retiring, Acking, Answers, left_by, settling, due_by}
-use Rattle.verbs_model.specs.Turned.{IsQuiet, IsAtRest}
-use Rattle.verbs_model.proofs.Facts.{MayStep_poll, MayStep_retire, MayStep_ack}
-use Rattle.scenario_text.specs.Limits.{posted_on}
-use Rattle.world_core.specs.declared.run.Done.{Done}
+use Rattle.verbs_model.specs.Turned.{Running, IsQuiet, IsAtRest}
+use Rattle.world_core.specs.declared.completions.Done.{Done}
 use Rattle.world_core.specs.declared.run.Progress.{Progress}
+use Rattle.world_core.specs.declared.run.Now.{Now}
 use Rattle.world_core.specs.declared.run.Now.TheVariants.{Free, Settle}
 use Rattle.world_core.specs.declared.turn.Made.{Made}
 use Rattle.world_core.specs.declared.turn.Made.TheVariants.{Poll as PollMade, Retire as RetireMade, Ack as AckMade}
-use Rattle.world_core.specs.View.{View}
-use Rattle.world_core.specs.Moves.{settled_now, IsRetire}
-use Rattle.world_core.specs.Decoding.{completion_of}
-use Rattle.world_core.specs.Machine.{the_queue, now_due, dues_of, all_dues, unpolled_of, number_of, ends_of, verbs_of, running_of}
-use Rattle.world_core.specs.Sound.{Setting, Owing, Sound, AcceptFits, IsOwnCall, items_due, posts_due, retires_due, none_done, number_at, free_of, count_for}
-use Rattle.world_core.specs.Steps.{Steps}
-use Rattle.world_core.proofs.Dues.{over_dues-set, sum_by-cons}
-use Rattle.world_core.proofs.Owing.{owing_after, rest_fits}
-use Rattle.world_core.proofs.Entries.{thread_entry}
-use Rattle.world_core.proofs.Queueing.{next_done, after_poll, after_retire, after_ack}
-use Rattle.world_core.proofs.Threading.{AtThread, dues_there, dues_now, dues_low, host_here, threads_kept, call_there, at_call, freed}
+use Rattle.world_core.specs.Decoding.{call_at, published_at}
+use Rattle.world_core.specs.Kept.{Sends, Completes, completion_of, unpolled_of, kept_completions, left_of, polling, acking, retiring}
+use Rattle.world_core.specs.Machine.{verbs_of, all_dues, dues_at, dues_of, now_due, retiring_of, running_of, at_call}
+use Rattle.world_core.specs.Moves.{settled_now, next_of, ended, IsRetire, RetiresAt}
+use Rattle.world_core.specs.Sane.{Sane, Goes, Owes, free_on}
+use Rattle.world_core.specs.Sound.{Sound, Stands, SettlesWithin, DrainsSome}
+use Rattle.world_core.specs.Steps.{Steps, TurnsTo, IsDraining, IsFreeAt, IsPollAt}
+use Rattle.world_core.specs.View.{View, place_of, sends_at, completes_at, with_sends, with_completes, with_progress}
+use Rattle.world_core.proofs.Owing.{proper_at}
+use Rattle.world_core.proofs.Waiting.{completion_in}
+use Rattle.world_core.proofs.GoesSettle.{polling_goes, draining_goes, ends_owed, retire_goes, retire_there, ack_goes}
+use Rattle.world_core.proofs.Tabling.{HasPlace, has_place, sends_is, sends_set, completes_is, completes_low, completes_set}
+use Rattle.world_core.proofs.Published.{Grows, none_grows, kept_grows, all_kept, settles_kept, extended_stays, completes_put}
+use Rattle.world_core.proofs.Standing.{stands_sends, stands_completes, stands_progress, stands_ended}
+use Rattle.world_core.proofs.Entries.{AtThread, ThreadMoves, dues_in, most_on, running, thread_steps, rest_steps, owes_there, dues_there, dues_now, stands_there, stands_read}
+use Rattle.world_core.proofs.Posting.{call_there}
+use Rattle.world_core.proofs.Polling.{polled_queue, polled_view, front_is, next_length, next_here, here_there, poll_queues, left_length}
 
-settle_any : (free k drains : ℕ) (calls : List Call) → AcceptFits free ((replicate k (Retiring the_queue) ++ Acking 0 ∷ [] ++ replicate drains (Draining 0)) ++ flat_map due_by calls)
-settle_any free zero drains calls = tt
-settle_any free (suc k) drains calls = tt
+abbrev none_done : Done
+none_done = record { qp = 0; id = 0; number = 0 }
 
-retiring_all : (xs : List Done) → map (λ (y : Completion). Retiring y.queue) (map completion_of xs) ≡ replicate (length xs) (Retiring the_queue)
+-- what a poll leaves owed is what the thread then has to do
+retiring_all : (xs : List Done) → map (λ (y : Completion). Retiring y.queue) (map completion_of xs) ≡ map retiring_of xs
 retiring_all [] = refl
-retiring_all (x ∷ xs) = ap (λ ds. Retiring the_queue ∷ ds) (retiring_all xs)
+retiring_all (x ∷ xs) = ap (λ (ds : List Due). retiring_of x ∷ ds) (retiring_all xs)
 
--- what a poll leaves owed
-pub settling_all : (calls : List Call) (xs : List Done) → settling 0 (map completion_of xs) ≡ now_due calls (settled_now (length xs))
-settling_all calls [] = refl
-settling_all calls (x ∷ xs) = ap (λ ds. ds ++ Acking 0 ∷ []) (retiring_all (x ∷ xs))
+settled : (calls : List Call) (cs : List Completes) (cq first count : ℕ) (xs : List Done) → take count (drop first (published_at cs cq)) ≡ xs → length xs ≡ count → now_due calls cs (settled_now cq first count) ≡ settling cq (map completion_of xs)
+settled calls cs cq first zero [] e long = refl
+settled calls cs cq first zero (x ∷ xs) e long = absurd (omega (arith, long))
+settled calls cs cq first (suc n) [] e long = absurd (omega (arith, long))
+settled calls cs cq first (suc n) (x ∷ xs) e long = ap (λ (ds : List Done). map retiring_of ds ++ Acking cq ∷ []) e ∙ ap (λ (ds : List Due). ds ++ Acking cq ∷ []) (sym (retiring_all (x ∷ xs)))
 
-settle_fits : (free k : ℕ) (rest : List Due) → AcceptFits free (replicate k (Retiring the_queue) ++ Acking 0 ∷ [] ++ rest)
-settle_fits free zero rest = tt
-settle_fits free (suc k) rest = tt
+settles_first : (cs : List Completes) (cq first count : ℕ) → first + count ≤ length (published_at cs cq) → SettlesWithin cs (settled_now cq first count)
+settles_first cs cq first zero le = tt
+settles_first cs cq first (suc n) le = le
 
-sum_retires : (k : ℕ) (rest : List Due) → sum_by retires_due (replicate k (Retiring the_queue) ++ Acking 0 ∷ [] ++ rest) ≡ k + sum_by retires_due rest
-sum_retires zero rest = sym (zero-add (sum_by retires_due rest))
-sum_retires (suc k) rest =
-    let tail : List Due = replicate k (Retiring the_queue) ++ Acking 0 ∷ [] ++ rest in
-    omega (arith, sum_by-cons retires_due (Retiring the_queue) tail, sum_retires k rest)
+module _ (d : Lines) (programs : List (List Call)) (w : View) (sound : Sound d programs w) where
+  abbrev v : Verbs
+  v = verbs_of d w
 
-sum_settled : (n : ℕ) (calls : List Call) (rest : List Due) → sum_by retires_due (now_due calls (settled_now n) ++ rest) ≡ n + sum_by retires_due rest
-sum_settled zero calls rest = sym (zero-add (sum_by retires_due rest))
-sum_settled (suc n) calls rest = sum_retires (suc n) rest
+  abbrev calls_of : ℕ → List Call
+  calls_of t = slice_index_or programs t []
 
-items_retiring : (k : ℕ) (rest : List Due) → sum_by items_due (replicate k (Retiring the_queue) ++ Acking 0 ∷ [] ++ rest) ≡ sum_by items_due rest
-items_retiring zero rest = refl
-items_retiring (suc k) rest = items_retiring k rest
+  -- Polls
 
-items_settled : (n : ℕ) (calls : List Call) (rest : List Due) → sum_by items_due (now_due calls (settled_now n) ++ rest) ≡ sum_by items_due rest
-items_settled zero calls rest = refl
-items_settled (suc n) calls rest = items_retiring (suc n) rest
+  module _ (t cq most : ℕ) (p : Progress) (due : Due) (later : List Due) (drains drained next : ℕ) (live : v.completions_live cq ≡ true) (a : AtThread w t p) (owed : dues_of (calls_of t) w.completions p ≡ due ∷ later)
+      (later_is : replicate drains (Draining drained) ++ flat_map due_by (drop next (calls_of t)) ≡ later) where
+    abbrev c : Completes
+    c = completes_at w.completions cq
 
-posts_retiring : (k : ℕ) (rest : List Due) → list_any posts_due (replicate k (Retiring the_queue) ++ Acking 0 ∷ [] ++ rest) ≡ list_any posts_due rest
-posts_retiring zero rest = refl
-posts_retiring (suc k) rest = posts_retiring k rest
+    abbrev count : ℕ
+    count = min most (left_of c)
 
-posts_settled : (n : ℕ) (calls : List Call) (rest : List Due) → list_any posts_due (now_due calls (settled_now n) ++ rest) ≡ list_any posts_due rest
-posts_settled zero calls rest = refl
-posts_settled (suc n) calls rest = posts_retiring (suc n) rest
+    abbrev took : List Done
+    took = next_of c most
 
-fits_settled : (free n : ℕ) (calls : List Call) (rest : List Due) → AcceptFits free rest → AcceptFits free (now_due calls (settled_now n) ++ rest)
-fits_settled free zero calls rest h = h
-fits_settled free (suc n) calls rest h = settle_fits free (suc n) rest
+    abbrev what : What
+    what = Poll cq most (map completion_in (take most (v.completions cq).unpolled))
 
-named_living : (d : Lines) (programs : List (List Call)) (w : View) (xs : List Done) → Setting d programs → list_all (names_living (verbs_of d w)) (map completion_of xs) ≡ true
-named_living d programs w [] s = refl
-named_living d programs w (x ∷ xs) s =
-    let one : names_living (verbs_of d w) (completion_of x) ≡ true = rw s.pair refl in
-    rw one (named_living d programs w xs s)
+    abbrev p' : Progress
+    p' = record { now = settled_now cq c.polled count; to_drain = drains; drained = drained; next = next }
 
-completions_of_unpolled : (xs : List Done) → map (λ (u : Unpolled). u.completion) (map unpolled_of xs) ≡ map completion_of xs
-completions_of_unpolled [] = refl
-completions_of_unpolled (x ∷ xs) = ap (λ cs. completion_of x ∷ cs) (completions_of_unpolled xs)
+    abbrev cs' : List Completes
+    cs' = slice_set w.completions cq (polling c count)
 
-next_length : (w : View) (most : ℕ) → length (next_done w (count_for w most)) ≡ count_for w most
-next_length w most = simp (length-take, length-drop) (omega arith)
+    low : cq < length w.completions
+    low = completes_low d w cq live
 
-front_of : (w : View) (most : ℕ) → map completion_of (next_done w (count_for w most)) ≡ map (λ (u : Unpolled). u.completion) (take most (map unpolled_of (drop w.polled w.published)))
-front_of w most =
-    let long : length w.published - w.polled ≡ length (drop w.polled w.published) = simp length-drop in
-    ap (λ n. map completion_of (take (min most n) (drop w.polled w.published))) long
-    ∙ ap (map completion_of) (take_min most (drop w.polled w.published))
-    ∙ sym (completions_of_unpolled (take most (drop w.polled w.published)))
-    ∙ ap (map (λ (u : Unpolled). u.completion)) (sym (take-map unpolled_of most (drop w.polled w.published)))
+    grows : Grows w.completions cs'
+    grows = kept_grows w.completions cq (polling c count) low refl
 
--- a thread takes completions
-pub record Takes (d : Lines) (programs : List (List Call)) (w : View) (t : ℕ) (p p' : Progress) (due : Due) (rest : List Due) (most : ℕ) : Type 0 where
-  pub stands : AtThread programs w t p
-  pub owes : dues_of (slice_index_or programs t []) p ≡ due ∷ rest
-  pub then_owes : dues_of (slice_index_or programs t []) p' ≡ now_due (slice_index_or programs t []) (settled_now (count_for w most)) ++ rest
-  pub least : 1 ≤ most
-  pub greatest : most ≤ 16
-  pub items : items_due due ≡ 0
-  pub posts : posts_due due ≡ false
-  pub retires : retires_due due ≡ 0
-  pub rest_fits : AcceptFits (free_of w) rest
-  pub answers : Answers due (Poll 0 most (map completion_of (next_done w (count_for w most))))
-  pub left : left_by due (Poll 0 most (map completion_of (next_done w (count_for w most)))) ≡ settling 0 (map completion_of (next_done w (count_for w most)))
+    within : c.polled + count ≤ length (published_at w.completions cq)
+    within = omega (arith, sound.stands.polled cq)
 
-pub take_steps : (d : Lines) (programs : List (List Call)) (w w' : View) (t : ℕ) (p p' : Progress) (due : Due) (rest : List Due) (most : ℕ) → Setting d programs → Sound d programs w → Takes d programs w t p p' due rest most
-    → w' ≡ record w { polled = w.polled + count_for w most; threads = slice_set w.threads t p' }
-    → Steps d programs w (suc t) (Some (PollMade most w.polled (count_for w most))) w'
-take_steps d programs w w' t p p' due rest most s sound h e =
-    let q = sound.queues in
-    let total : ℕ = posted_on FIRST_QP programs in
-    let calls : List Call = slice_index_or programs t [] in
-    let count : ℕ = count_for w most in
-    let taken : List Done = next_done w count in
-    let what : What = Poll 0 most (map completion_of taken) in
-    let now : View = record w { polled = w.polled + count; threads = slice_set w.threads t p' } in
-    let settled : List Due = now_due calls (settled_now count) ++ rest in
-    let owed : slice_index_or (all_dues programs w.threads) t [] ≡ due ∷ rest = dues_there programs w t p h.stands sound.threads ∙ h.owes in
-    let leaves : left_by due what ≡ now_due calls (settled_now count) = h.left ∙ settling_all calls taken ∙ ap (λ n. now_due calls (settled_now n)) (next_length w most) in
-    let left : all_dues programs now.threads ≡ slice_set (all_dues programs w.threads) t settled = dues_now programs w t p p' h.stands sound.threads ∙ ap (slice_set (all_dues programs w.threads) t) h.then_owes in
-    let few : count ≤ length w.published - w.polled = omega arith in
-    let within : w.polled + count ≤ length w.published = omega (arith, few, q.polled) in
-    let le : w.ended ≤ w.polled = omega (arith, sound.owing.retires) in
-    let same_posts : list_any posts_due (due ∷ rest) ≡ list_any posts_due rest = rw h.posts refl in
-    let legal : MayStep (verbs_of d w) (record { actor = suc t; what = what }) = MayStep_poll {v = verbs_of d w} {cq = 0} (record {
-      host = host_here programs w t h.stands.low sound.threads s.threads;
-      lives = s.queue;
-      named = named_living d programs w taken s;
-      least = h.least;
-      greatest = h.greatest;
-      front = front_of w most;
-    }) in
-    let steps : Steps d programs w (suc t) (Some (PollMade most w.polled count)) now = record {
-      sound = record {
-        threads = threads_kept w t p' (length programs) sound.threads;
-        queues = record {
-          room = q.room;
-          small_room = q.small_room;
-          posted = q.posted;
-          posted_room = q.posted_room;
-          published_room = q.published_room;
-          outstanding = q.outstanding;
-          taken = q.taken;
-          published = q.published;
-          ascending = q.ascending;
-          numbers = q.numbers;
-          owed = q.owed;
-          retired = q.retired;
-          unretired = q.unretired;
-          polled = within;
-        };
-        owing = subst (Owing total now) (sym left) (owing_after total w now (all_dues programs w.threads) t (due ∷ rest) settled sound.owing (record {
-          low = dues_low programs w t p h.stands sound.threads;
-          at_thread = owed;
-          items = omega (arith, items_settled count calls rest, sum_by-cons items_due due rest);
-          retires = omega (arith, sum_settled count calls rest, sum_by-cons retires_due due rest, h.retires);
-          posts = λ none. posts_settled count calls rest ∙ sym same_posts ∙ none;
-          fits = fits_settled (free_of w) count calls rest h.rest_fits;
-          others = inl (omega arith);
-        }));
-      };
-      turns = thread_entry d programs w now t due rest what (record {
-        low = dues_low programs w t p h.stands sound.threads;
-        owed = owed;
-        left = left ∙ ap (λ ds. slice_set (all_dues programs w.threads) t (ds ++ rest)) (sym leaves);
-        answers = h.answers;
-        legal = legal;
-        lowest = tt;
-        queues = after_poll d w most count (slice_set w.threads t p') le q.polled few;
-      });
-      within = within;
-      more = [];
-      grows = sym (append-nil w.published);
-    } in
-    subst (λ (v : View). Steps d programs w (suc t) (Some (PollMade most w.polled count)) v) (sym e) steps
+    settles : SettlesWithin w.completions p'.now
+    settles = settles_first w.completions cq c.polled count within
 
--- a poll call
-pub poll_steps : (d : Lines) (programs : List (List Call)) (w w' : View) (t n cq most : ℕ) → Setting d programs → Sound d programs w → AtThread programs w t (at_call n)
-    → n < length (slice_index_or programs t [])
-    → slice_index_or (slice_index_or programs t []) n (PollCall 0 1) ≡ PollCall cq most
-    → w' ≡ record w { polled = w.polled + count_for w most; threads = slice_set w.threads t (record { now = settled_now (count_for w most); to_drain = 0; next = n + 1 }) }
-    → Steps d programs w (suc t) (Some (PollMade most w.polled (count_for w most))) w'
-poll_steps d programs w w' t n cq most s sound stands low call e =
-    let calls : List Call = slice_index_or programs t [] in
-    let own = subst IsOwnCall call (s.calls t n) in
-    let rest : List Due = flat_map due_by (drop (n + 1) calls) in
-    let p' : Progress = record { now = settled_now (count_for w most); to_drain = 0; next = n + 1 } in
-    take_steps d programs w w' t (at_call n) p' (Polling 0 most) rest most s sound (record {
-      stands = stands;
-      owes = call_there calls n (PollCall cq most) low call ∙ ap (λ c. Polling c most ∷ rest) own.0;
-      then_owes = append_assoc (now_due calls (settled_now (count_for w most))) [] rest;
-      least = own.1.0;
-      greatest = own.1.1;
-      items = refl;
-      posts = refl;
-      retires = refl;
-      rest_fits = rest_fits (free_of w) 0 (drop (n + 1) calls);
-      answers = (refl, refl);
-      left = refl;
-    }) e
+    now_owed : dues_of (calls_of t) w.completions p' ≡ ends_owed cq (take most (v.completions cq).unpolled) ++ later
+    now_owed =
+        ap (λ (ds : List Due). ds ++ (replicate drains (Draining drained) ++ flat_map due_by (drop next (calls_of t)))) (settled (calls_of t) w.completions cq c.polled count took refl (next_length d programs w sound cq most live) ∙ ap (settling cq) (sym (front_is d programs w sound cq most live)))
+        ∙ ap (λ (ds : List Due). ends_owed cq (take most (v.completions cq).unpolled) ++ ds) later_is
 
-abbrev pub draining : ℕ → ℕ → Progress
-draining k n = record { now = Free; to_drain = k; next = n }
+    left_now : all_dues programs cs' (slice_set w.threads t p') ≡ slice_set (dues_in programs w) t (ends_owed cq (take most (v.completions cq).unpolled) ++ later)
+    left_now =
+        all_kept programs w.completions cs' (slice_set w.threads t p') grows (stands_progress d programs w sound.stands t p' a.low settles).settles
+        ∙ dues_now d programs w sound.stands t p a p'
+        ∙ ap (slice_set (dues_in programs w) t) now_owed
 
--- one completion of a drain
-pub drain_steps : (d : Lines) (programs : List (List Call)) (w w' : View) (t k n : ℕ) → Setting d programs → Sound d programs w → AtThread programs w t (draining (k + 1) n)
-    → w.polled < length w.published
-    → w' ≡ record w { polled = w.polled + 1; threads = slice_set w.threads t (record { now = Settle 1; to_drain = k; next = n }) }
-    → Steps d programs w (suc t) (Some (PollMade 1 w.polled 1)) w'
-drain_steps d programs w w' t k n s sound stands some e =
-    let calls : List Call = slice_index_or programs t [] in
-    let begun : List Due = flat_map due_by (drop n calls) in
-    let rest : List Due = replicate k (Draining 0) ++ begun in
-    let p' : Progress = record { now = Settle 1; to_drain = k; next = n } in
-    let one : count_for w 1 ≡ 1 = omega (arith, some) in
-    let more : suc k ≡ k + 1 = omega arith in
-    let owes : dues_of calls (draining (k + 1) n) ≡ Draining 0 ∷ rest = ap (λ m. replicate m (Draining 0) ++ begun) (sym more) in
-    let long : length (map completion_of (next_done w (count_for w 1))) ≡ 1 = simp length-map (next_length w 1 ∙ one) in
-    let now_is : w' ≡ record w { polled = w.polled + count_for w 1; threads = slice_set w.threads t p' } = e ∙ ap (λ (m : ℕ). record w { polled = w.polled + m; threads = slice_set w.threads t p' }) (sym one) in
-    subst (λ (m : ℕ). Steps d programs w (suc t) (Some (PollMade 1 w.polled m)) w') one
-    (take_steps d programs w w' t (draining (k + 1) n) p' (Draining 0) rest 1 s sound (record {
-      stands = stands;
-      owes = owes;
-      then_owes = append_assoc (now_due calls (Settle 1)) (replicate k (Draining 0)) begun ∙ ap (λ m. now_due calls (settled_now m) ++ rest) (sym one);
-      least = omega arith;
-      greatest = omega arith;
-      items = refl;
-      posts = refl;
-      retires = refl;
-      rest_fits = rest_fits (free_of w) k (drop n calls);
-      answers = (refl, refl, long);
-      left = refl;
-    }) now_is)
+    stands_polled : Stands d programs (with_progress (polled_view d programs w sound cq most live) t p')
+    stands_polled =
+        let ended_stands = stands_ended d programs w took sound.stands (here_there (length w.queues) took (next_here d programs w sound cq most live)) in
+        stands_progress d programs (polled_view d programs w sound cq most live) (stands_completes d programs (record w { queues = ended w.queues took }) ended_stands cq (polling c count) low refl refl within grows) t p' a.low
+        (settles_kept w.completions cs' p'.now grows settles)
 
-abbrev pub settling_at : ℕ → ℕ → ℕ → Progress
-settling_at k drains n = record { now = Settle k; to_drain = drains; next = n }
+    pub take_steps : Answers due what → left_by due what ≡ ends_owed cq (take most (v.completions cq).unpolled)
+        → Goes (length d.qps) (most_on programs) v (suc t) what (slice_set (dues_in programs w) t (ends_owed cq (take most (v.completions cq).unpolled) ++ later))
+        → (w1 w' : View) → w1 ≡ polled_view d programs w sound cq most live → w' ≡ with_progress w1 t p'
+        → Steps d programs w (suc t) (Some (PollMade cq most c.polled count)) w'
+    take_steps answers leaves goes w1 w' first follows =
+        let same : slice_set (dues_in programs w) t (ends_owed cq (take most (v.completions cq).unpolled) ++ later) ≡ slice_set (dues_in programs w) t (left_by due what ++ later) = ap (λ (ds : List Due). slice_set (dues_in programs w) t (ds ++ later)) (sym leaves) in
+        let stays : take count (drop c.polled (published_at cs' cq)) ≡ took = extended_stays (published_at w.completions cq) (published_at cs' cq) c.polled count (grows cq) within in
+        let longer : SettlesWithin cs' (Settle cq c.polled count) = settles_kept w.completions cs' (Settle cq c.polled count) grows within in
+        thread_steps d programs w w' (with_progress (polled_view d programs w sound cq most live) t p') t due later what (PollMade cq most c.polled count) sound
+        (record {
+          stands = stands_polled;
+          owes = owes_there d programs w sound.stands t p a due later owed;
+          left = left_now ∙ same;
+          answers = answers;
+          lowest = tt;
+          goes = subst (Goes (length d.qps) (most_on programs) v (suc t) what) same goes;
+          queues = poll_queues d programs w sound cq most live;
+          grows = grows;
+        })
+        (ap (λ (ds : List Done). Poll cq most (map completion_of ds)) stays ∙ ap (Poll cq most) (sym (front_is d programs w sound cq most live)))
+        longer
+        (follows ∙ ap (λ (x : View). with_progress x t p') first)
 
--- what one thread has to retire is among those polled
-retires_at : (programs : List (List Call)) (w : View) (t : ℕ) (d : Lines) → Sound d programs w → t < length (all_dues programs w.threads) → w.ended + sum_by retires_due (slice_index_or (all_dues programs w.threads) t []) ≤ w.polled
-retires_at programs w t d sound low = omega (arith, over_dues-set retires_due (all_dues programs w.threads) t [] low, sound.owing.retires)
+  -- a poll call
+  module _ (t n cq most : ℕ) (free : IsFreeAt w t n) (poll : IsPollAt (calls_of t) n cq most) where
+    abbrev poll_begins : Progress
+    poll_begins = record { now = Free; to_drain = 0; drained = free.drained; next = n }
 
-pub ended_low : (d : Lines) (programs : List (List Call)) (w : View) (t k drains n : ℕ) → Sound d programs w → AtThread programs w t (settling_at (k + 1) drains n) → w.ended < length w.published
-ended_low d programs w t k drains n sound stands =
-    let rest : List Due = dues_of (slice_index_or programs t []) (settling_at k drains n) in
-    let more : suc k ≡ k + 1 = omega arith in
-    let owes : dues_of (slice_index_or programs t []) (settling_at (k + 1) drains n) ≡ Retiring the_queue ∷ rest = ap (λ m. dues_of (slice_index_or programs t []) (settling_at m drains n)) (sym more) in
-    let one : sum_by retires_due (slice_index_or (all_dues programs w.threads) t []) ≡ 1 + sum_by retires_due rest = ap (sum_by retires_due) (dues_there programs w t (settling_at (k + 1) drains n) stands sound.threads ∙ owes) ∙ sum_by-cons retires_due (Retiring the_queue) rest in
-    omega (arith, retires_at programs w t d sound (dues_low programs w t (settling_at (k + 1) drains n) stands sound.threads), one, sound.queues.polled)
+    abbrev poll_later : List Due
+    poll_later = flat_map due_by (drop (n + 1) (calls_of t))
 
-ends_first : (w : View) (x : Done) → w.ended < w.polled → w.polled ≤ length w.published → slice_get w.published w.ended ≡ Some x → ends_of w ≡ x.number ∷ rest_of (ends_of w)
-ends_first w x low within there =
-    let polled : List Done = take w.polled w.published in
-    let long : length polled ≡ min w.polled (length w.published) = length-take w.polled w.published in
-    let first : slice_index_or polled w.ended none_done ≡ x = get_or-take w.polled w.published w.ended none_done low ∙ get_or_from_slice_get w.published w.ended x none_done there in
-    let split : drop w.ended polled ≡ x ∷ drop (suc w.ended) polled = drop-cons polled w.ended none_done (omega (arith, long, low, within)) ∙ ap (λ y. y ∷ drop (suc w.ended) polled) first in
-    ap (map number_of) split ∙ ap (λ ns. x.number ∷ rest_of ns) (ap (map number_of) (sym split))
+    poll_owed : dues_of (calls_of t) w.completions poll_begins ≡ Polling cq most ∷ poll_later
+    poll_owed = call_there (calls_of t) n (PollCall cq most) poll.low poll.is_poll
 
--- the retirement of the oldest
-pub retire_steps : (d : Lines) (programs : List (List Call)) (w w' : View) (t k drains n : ℕ) (made : Made) (moved : View) → Setting d programs → Sound d programs w → AtThread programs w t (settling_at (k + 1) drains n)
-    → IsRetire w made moved
-    → w' ≡ record moved { threads = slice_set w.threads t (settling_at k drains n) }
-    → Steps d programs w (suc t) (Some made) w'
-retire_steps d programs w w' t k drains n made moved s sound stands r e =
-    let q = sound.queues in
-    let x : Done = r.completion in
-    let total : ℕ = posted_on FIRST_QP programs in
-    let calls : List Call = slice_index_or programs t [] in
-    let p : Progress = settling_at (k + 1) drains n in
-    let p' : Progress = settling_at k drains n in
-    let rest : List Due = dues_of calls p' in
-    let what : What = Retire the_queue x.number in
-    let now : View = record w { ended = w.ended + 1; retired = x.number; threads = slice_set w.threads t p' } in
-    let more : suc k ≡ k + 1 = omega arith in
-    let owes : dues_of calls p ≡ Retiring the_queue ∷ rest = ap (λ m. dues_of calls (settling_at m drains n)) (sym more) in
-    let owed : slice_index_or (all_dues programs w.threads) t [] ≡ Retiring the_queue ∷ rest = dues_there programs w t p stands sound.threads ∙ owes in
-    let low : t < length (all_dues programs w.threads) = dues_low programs w t p stands sound.threads in
-    let one : sum_by retires_due (slice_index_or (all_dues programs w.threads) t []) ≡ 1 + sum_by retires_due rest = ap (sum_by retires_due) owed ∙ sum_by-cons retires_due (Retiring the_queue) rest in
-    let ended : w.ended < w.polled = omega (arith, retires_at programs w t d sound low, one) in
-    let number : number_at w w.ended ≡ x.number = ap number_of (get_or_from_slice_get w.published w.ended x none_done r.there) in
-    let left : all_dues programs now.threads ≡ slice_set (all_dues programs w.threads) t rest = dues_now programs w t p p' stands sound.threads in
-    let legal : MayStep (verbs_of d w) (record { actor = suc t; what = what }) = MayStep_retire {v = verbs_of d w} {queue = the_queue} (record {
-      host = host_here programs w t stands.low sound.threads s.threads;
-      lives = s.pair;
-      first = ends_first w x ended q.polled r.there;
-    }) in
-    let steps : Steps d programs w (suc t) (Some (RetireMade x.number)) now = record {
-      sound = record {
-        threads = threads_kept w t p' (length programs) sound.threads;
-        queues = record {
-          room = q.room;
-          small_room = q.small_room;
-          posted = q.posted;
-          posted_room = q.posted_room;
-          published_room = q.published_room;
-          outstanding = omega (arith, q.outstanding, q.unretired w.ended (omega arith) (omega (arith, ended, q.polled)), number);
-          taken = q.taken;
-          published = q.published;
-          ascending = q.ascending;
-          numbers = q.numbers;
-          owed = q.owed;
-          retired = omega (arith, q.numbers w.ended, number);
-          unretired = λ i from below. omega (arith, q.ascending w.ended i (omega (arith, from)) below, number);
-          polled = q.polled;
-        };
-        owing = subst (Owing total now) (sym left) (owing_after total w now (all_dues programs w.threads) t (Retiring the_queue ∷ rest) rest sound.owing (record {
-          low = low;
-          at_thread = owed;
-          items = omega (arith, sum_by-cons items_due (Retiring the_queue) rest);
-          retires = omega (arith, sum_by-cons retires_due (Retiring the_queue) rest);
-          posts = λ none. none;
-          fits = settle_any (free_of now) k drains (drop n calls);
-          others = inl (omega (arith, q.unretired w.ended (omega arith) (omega (arith, ended, q.polled)), number));
-        }));
-      };
-      turns = thread_entry d programs w now t (Retiring the_queue) rest what (record {
-        low = low;
-        owed = owed;
-        left = left;
-        answers = refl;
-        legal = legal;
-        lowest = tt;
-        queues = after_retire d w x.number (slice_set w.threads t p');
-      });
-      within = tt;
-      more = [];
-      grows = sym (append-nil w.published);
-    } in
-    let now_is : w' ≡ now = e ∙ ap (λ (v : View). record v { threads = slice_set w.threads t p' }) r.now_is in
-    subst (λ (m : Made). Steps d programs w (suc t) (Some m) w') (sym r.made_is) (subst (λ (v : View). Steps d programs w (suc t) (Some (RetireMade x.number)) v) (sym now_is) steps)
+    poll_owes : Owes (dues_in programs w) t (Polling cq most) poll_later
+    poll_owes = owes_there d programs w sound.stands t poll_begins (stands_there w t poll_begins free.stands) _ poll_later poll_owed
 
--- the acknowledgement after the last retirement
-pub ack_steps : (d : Lines) (programs : List (List Call)) (w w' : View) (t drains n : ℕ) → Setting d programs → Sound d programs w → AtThread programs w t (settling_at 0 drains n)
-    → w' ≡ record w { acked = w.polled; threads = slice_set w.threads t (freed drains n) }
-    → Steps d programs w (suc t) (Some (AckMade w.polled)) w'
-ack_steps d programs w w' t drains n s sound stands e =
-    let q = sound.queues in
-    let total : ℕ = posted_on FIRST_QP programs in
-    let calls : List Call = slice_index_or programs t [] in
-    let p : Progress = settling_at 0 drains n in
-    let p' : Progress = freed drains n in
-    let rest : List Due = dues_of calls p' in
-    let what : What = Ack 0 w.polled in
-    let now : View = record w { acked = w.polled; threads = slice_set w.threads t p' } in
-    let owed : slice_index_or (all_dues programs w.threads) t [] ≡ Acking 0 ∷ rest = dues_there programs w t p stands sound.threads in
-    let low : t < length (all_dues programs w.threads) = dues_low programs w t p stands sound.threads in
-    let left : all_dues programs now.threads ≡ slice_set (all_dues programs w.threads) t rest = dues_now programs w t p p' stands sound.threads in
-    let unpolled : length (map unpolled_of (drop w.polled w.published)) ≡ length w.published - w.polled = simp (length-map, length-drop) in
-    let oldest : w.polled ≡ length w.published - length (map unpolled_of (drop w.polled w.published)) = omega (arith, unpolled, q.polled) in
-    let legal : MayStep (verbs_of d w) (record { actor = suc t; what = what }) = MayStep_ack {v = verbs_of d w} {cq = 0} (record {
-      host = host_here programs w t stands.low sound.threads s.threads;
-      lives = s.queue;
-      oldest = oldest;
-    }) in
-    let steps : Steps d programs w (suc t) (Some (AckMade w.polled)) now = record {
-      sound = record {
-        threads = threads_kept w t p' (length programs) sound.threads;
-        queues = record {
-          room = q.room;
-          small_room = q.small_room;
-          posted = q.posted;
-          posted_room = q.posted_room;
-          published_room = q.published_room;
-          outstanding = q.outstanding;
-          taken = q.taken;
-          published = q.published;
-          ascending = q.ascending;
-          numbers = q.numbers;
-          owed = q.owed;
-          retired = q.retired;
-          unretired = q.unretired;
-          polled = q.polled;
-        };
-        owing = subst (Owing total now) (sym left) (owing_after total w now (all_dues programs w.threads) t (Acking 0 ∷ rest) rest sound.owing (record {
-          low = low;
-          at_thread = owed;
-          items = omega (arith, sum_by-cons items_due (Acking 0) rest);
-          retires = omega (arith, sum_by-cons retires_due (Acking 0) rest);
-          posts = λ none. none;
-          fits = rest_fits (free_of now) drains (drop n calls);
-          others = inl (omega arith);
-        }));
-      };
-      turns = thread_entry d programs w now t (Acking 0) rest what (record {
-        low = low;
-        owed = owed;
-        left = left;
-        answers = refl;
-        legal = legal;
-        lowest = tt;
-        queues = after_ack d w w.polled (slice_set w.threads t p');
-      });
-      within = tt;
-      more = [];
-      grows = sym (append-nil w.published);
-    } in
-    subst (λ (v : View). Steps d programs w (suc t) (Some (AckMade w.polled)) v) (sym e) steps
+    pub poll_live : v.completions_live cq ≡ true
+    poll_live = (proper_at v.pair_lives v.completions_live (free_on v) (dues_in programs w) t (Polling cq most) poll_later sound.sane.owing poll_owes).0.0
 
--- a thread whose calls are all done
-pub ended_rests : (d : Lines) (programs : List (List Call)) (w : View) (t n : ℕ) → Sound d programs w → AtThread programs w t (at_call n) → length (slice_index_or programs t []) ≤ n → IsAtRest (running_of d programs w) (suc t)
-ended_rests d programs w t n sound stands far =
-    let none : drop n (slice_index_or programs t []) ≡ [] = drop_of_length-le (slice_index_or programs t []) far in
-    subst (IsQuiet (verbs_of d w)) (sym (dues_there programs w t (at_call n) stands sound.threads ∙ ap (flat_map due_by) none)) tt
+    pub poll_steps : (w1 w' : View) → w1 ≡ polled_view d programs w sound cq most poll_live → w' ≡ with_progress w1 t (record { now = settled_now cq (completes_at w.completions cq).polled (min most (left_of (completes_at w.completions cq))); to_drain = 0; drained = cq; next = n + 1 })
+        → Steps d programs w (suc t) (Some (PollMade cq most (completes_at w.completions cq).polled (min most (left_of (completes_at w.completions cq))))) w'
+    poll_steps w1 w' first follows =
+        take_steps t cq most poll_begins (Polling cq most) poll_later 0 cq (n + 1) poll_live (stands_there w t poll_begins free.stands) poll_owed refl (refl, refl) refl
+        (polling_goes (length d.qps) (most_on programs) v (dues_in programs w) cq most sound.sane t poll_later poll_owes) w1 w' first follows
 
--- a thread that waits for a completion to drain
-pub drain_rests : (d : Lines) (programs : List (List Call)) (w : View) (t k n : ℕ) → Sound d programs w → AtThread programs w t (draining (k + 1) n) → length w.published ≤ w.polled → IsAtRest (running_of d programs w) (suc t)
-drain_rests d programs w t k n sound stands far =
-    let calls : List Call = slice_index_or programs t [] in
-    let none : drop w.polled w.published ≡ [] = drop_of_length-le w.published far in
-    let more : k + 1 ≡ suc k = omega arith in
-    let owed : slice_index_or (all_dues programs w.threads) t [] ≡ Draining 0 ∷ replicate k (Draining 0) ++ flat_map due_by (drop n calls) =
-    dues_there programs w t (draining (k + 1) n) stands sound.threads ∙ ap (λ m. replicate m (Draining 0) ++ flat_map due_by (drop n calls)) more in
-    subst (IsQuiet (verbs_of d w)) (sym owed) (ap (map unpolled_of) none)
+  -- one completion of a drain
+  module _ (t cq drains n : ℕ) (stands : IsDraining w t cq drains n) (some : 0 < drains) where
+    abbrev drain_now : Progress
+    drain_now = record { now = Free; to_drain = drains; drained = cq; next = n }
 
--- a drain that begins owes what its call owed
-pub begin_same : (programs : List (List Call)) (w : View) (t count n cq : ℕ) (d : Lines) → Setting d programs → Sound d programs w → AtThread programs w t (at_call n)
-    → n < length (slice_index_or programs t [])
-    → slice_index_or (slice_index_or programs t []) n (PollCall 0 1) ≡ Drain cq count
-    → all_dues programs (slice_set w.threads t (draining count (n + 1))) ≡ all_dues programs w.threads
-begin_same programs w t count n cq d s sound stands low call =
-    let calls : List Call = slice_index_or programs t [] in
-    let own = subst IsOwnCall call (s.calls t n) in
-    let same : dues_of calls (at_call n) ≡ dues_of calls (draining count (n + 1)) = call_there calls n (Drain cq count) low call ∙ ap (λ c. replicate count (Draining c) ++ flat_map due_by (drop (n + 1) calls)) own.0 in
-    dues_now programs w t (at_call n) (draining count (n + 1)) stands sound.threads
-    ∙ ap (slice_set (all_dues programs w.threads) t) (sym same ∙ sym (dues_there programs w t (at_call n) stands sound.threads))
-    ∙ set-get_or (all_dues programs w.threads) t []
+    abbrev drain_later : List Due
+    drain_later = replicate (drains - 1) (Draining cq) ++ flat_map due_by (drop n (calls_of t))
+
+    drain_owed : dues_of (calls_of t) w.completions drain_now ≡ Draining cq ∷ drain_later
+    drain_owed = ap (λ m. replicate m (Draining cq) ++ flat_map due_by (drop n (calls_of t))) (let back : drains ≡ suc (drains - 1) = omega (arith, some) in back)
+
+    pub drain_owes : Owes (dues_in programs w) t (Draining cq) drain_later
+    drain_owes = owes_there d programs w sound.stands t drain_now (stands_there w t drain_now stands) _ drain_later drain_owed
+
+    pub drain_live : v.completions_live cq ≡ true
+    drain_live = (proper_at v.pair_lives v.completions_live (free_on v) (dues_in programs w) t (Draining cq) drain_later sound.sane.owing drain_owes).0
+
+    drained_one : (completes_at w.completions cq).polled < length (published_at w.completions cq) → length (map completion_in (take 1 (v.completions cq).unpolled)) ≡ 1
+    drained_one more =
+        let one : length (map completion_of (next_of (completes_at w.completions cq) 1)) ≡ 1 = simp length-map (next_length d programs w sound cq 1 drain_live ∙ (let e : min 1 (left_of (completes_at w.completions cq)) ≡ 1 = omega (arith, more) in e)) in
+        ap (λ (xs : List Completion). length xs) (front_is d programs w sound cq 1 drain_live) ∙ one
+
+    pub drain_steps : (w1 w' : View) → (completes_at w.completions cq).polled < length (published_at w.completions cq) → w1 ≡ polled_view d programs w sound cq 1 drain_live → w' ≡ with_progress w1 t (record { now = settled_now cq (completes_at w.completions cq).polled (min 1 (left_of (completes_at w.completions cq))); to_drain = drains - 1; drained = cq; next = n })
+        → Steps d programs w (suc t) (Some (PollMade cq 1 (completes_at w.completions cq).polled (min 1 (left_of (completes_at w.completions cq))))) w'
+    drain_steps w1 w' more first follows =
+        take_steps t cq 1 drain_now (Draining cq) drain_later (drains - 1) cq n drain_live (stands_there w t drain_now stands) drain_owed refl (refl, refl, drained_one more) refl
+        (draining_goes (length d.qps) (most_on programs) v (dues_in programs w) t cq drain_later sound.sane drain_owes) w1 w' first follows
+
+    -- a drain that waits
+    pub drain_rests : length (published_at w.completions cq) ≡ (completes_at w.completions cq).polled → Steps d programs w (suc t) None w
+    drain_rests far =
+        let none : drop (completes_at w.completions cq).polled (published_at w.completions cq) ≡ [] = drop_of_length-le (published_at w.completions cq) (omega (arith, far)) in
+        let empty : (v.completions cq).unpolled ≡ [] = ap (λ (x : CompletionQueue). x.unpolled) (completes_is d w cq drain_live) ∙ ap (map unpolled_of) none in
+        rest_steps d programs w (suc t) sound (subst (IsQuiet v) (sym drain_owes.is) empty)
+
+  -- a thread whose calls are all begun and done
+  pub end_rests : (t n : ℕ) → IsFreeAt w t n → length (calls_of t) ≤ n → Steps d programs w (suc t) None w
+  end_rests t n free far =
+      let p : Progress = record { now = Free; to_drain = 0; drained = free.drained; next = n } in
+      let none : drop n (calls_of t) ≡ [] = drop_of_length-le (calls_of t) far in
+      rest_steps d programs w (suc t) sound (subst (IsQuiet v) (sym (dues_there d programs w sound.stands t p (stands_there w t p free.stands) ∙ ap (flat_map due_by) none)) tt)
+
+  -- Drains that begin
+
+  module _ (t n cq count : ℕ) (free : IsFreeAt w t n) (low : n < length (calls_of t)) (call : call_at (calls_of t) n ≡ Drain cq count) where
+    abbrev waits : Progress
+    waits = record { now = Free; to_drain = 0; drained = free.drained; next = n }
+
+    abbrev drains : Progress
+    drains = record { now = Free; to_drain = count; drained = cq; next = n + 1 }
+
+    abbrev begun : View
+    begun = with_progress w t drains
+
+    begun_at : AtThread w t waits
+    begun_at = stands_there w t waits free.stands
+
+    begun_same : dues_in programs begun ≡ dues_in programs w
+    begun_same =
+        dues_now d programs w sound.stands t waits begun_at drains
+        ∙ ap (slice_set (dues_in programs w) t) (sym (call_there (calls_of t) n (Drain cq count) low call) ∙ sym (dues_there d programs w sound.stands t waits begun_at))
+        ∙ set-get_or (dues_in programs w) t []
+
+    pub begun_sound : (w1 : View) → w1 ≡ begun → Sound d programs w1
+    begun_sound w1 is = subst (Sound d programs) (sym is) (record {
+      stands = stands_progress d programs w sound.stands t drains begun_at.low tt;
+      sane = subst (Sane (length d.qps) (most_on programs) v) (sym begun_same) sound.sane;
+      drains = sound.drains;
+    })
+
+    pub begun_drains : (w1 : View) → w1 ≡ begun → IsDraining w1 t cq count (n + 1)
+    begun_drains w1 is = subst (λ (x : View). IsDraining x t cq count (n + 1)) (sym is) (set_there w.threads t begun_at.low)
+      where
+        set_there : (ps : List Progress) (k : ℕ) → k < length ps → slice_get (slice_set ps k drains) k ≡ Some drains
+        set_there [] k l = absurd (omega (arith, l))
+        set_there (x ∷ ps) zero l = refl
+        set_there (x ∷ ps) (suc k) l = set_there ps k (omega (arith, l))
+
+    pub begun_some : 0 < count
+    begun_some = subst DrainsSome call (sound.drains t n)
+
+    begun_steps : (w' : View) (made : _) → Steps d programs begun (suc t) made w' → Steps d programs w (suc t) made w'
+    begun_steps w' made steps = record {
+      sound = steps.sound;
+      turns = subst (λ (dues : List (List Due)). TurnsTo programs w'.completions (running v (dues_at dues)) (suc t) made (running_of d programs w')) begun_same steps.turns;
+      within = steps.within;
+      grows = steps.grows;
+    }
+
+    pub began_steps : (w1 w' : View) (made : _) → w1 ≡ begun → Steps d programs w1 (suc t) made w' → Steps d programs w (suc t) made w'
+    began_steps w1 w' made is steps = begun_steps w' made (subst (λ (x : View). Steps d programs x (suc t) made w') is steps)
+
+  -- Retirements and acknowledgements
+
+  module _ (t cq first left : ℕ) (p : Progress) (a : AtThread w t p) (now : p.now ≡ Settle cq first left) where
+    abbrev c' : Completes
+    c' = completes_at w.completions cq
+
+    abbrev others : List Due
+    others = replicate p.to_drain (Draining p.drained) ++ flat_map due_by (drop p.next (calls_of t))
+
+    abbrev settling_due : ℕ → ℕ → List Due
+    settling_due k m = map retiring_of (take m (drop k c'.published)) ++ Acking cq ∷ []
+
+    abbrev settling_at : ℕ → ℕ → Progress
+    settling_at k m = record { now = Settle cq k m; to_drain = p.to_drain; drained = p.drained; next = p.next }
+
+    settle_within : first + left ≤ length c'.published
+    settle_within = subst (SettlesWithin w.completions) (ap (λ (x : Progress). x.now) (stands_read w t p a) ∙ now) (sound.stands.settles t)
+
+    settle_owed : dues_of (calls_of t) w.completions p ≡ settling_due first left ++ others
+    settle_owed = ap (λ (x : Now). now_due (calls_of t) w.completions x ++ others) now
+
+    -- the acknowledgement after the last retirement
+    module _ (none_left : left ≡ 0) where
+      ack_owed : dues_of (calls_of t) w.completions p ≡ Acking cq ∷ others
+      ack_owed = settle_owed ∙ ap (λ m. settling_due first m ++ others) none_left
+
+      ack_owes : Owes (dues_in programs w) t (Acking cq) others
+      ack_owes = owes_there d programs w sound.stands t p a (Acking cq) others ack_owed
+
+      ack_live : v.completions_live cq ≡ true
+      ack_live = (proper_at v.pair_lives v.completions_live (free_on v) (dues_in programs w) t (Acking cq) others sound.sane.owing ack_owes).0
+
+      pub ack_low : cq < length w.completions
+      ack_low = completes_low d w cq ack_live
+
+      abbrev ack_cs : List Completes
+      ack_cs = slice_set w.completions cq (acking c')
+
+      abbrev freed : Progress
+      freed = record { now = Free; to_drain = p.to_drain; drained = p.drained; next = p.next }
+
+      ack_index : (v.completions cq).produced - length (v.completions cq).unpolled ≡ c'.polled
+      ack_index =
+          let is : v.completions cq ≡ kept_completions c' = completes_is d w cq ack_live in
+          let produced : (v.completions cq).produced ≡ length c'.published = ap (λ (x : CompletionQueue). x.produced) is in
+          let unpolled : length (v.completions cq).unpolled ≡ length c'.published - c'.polled = ap (λ (x : CompletionQueue). length x.unpolled) is ∙ simp (length-map, length-drop) in
+          omega (arith, produced, unpolled, sound.stands.polled cq)
+
+      ack_queues : after v (Ack cq c'.polled) ≡ verbs_of d (with_completes w cq (acking c'))
+      ack_queues =
+          ap (λ (x : CompletionQueue). with_completions v cq (record x { acked = c'.polled })) (completes_is d w cq ack_live)
+          ∙ sym (completes_set d w cq (acking c') ack_live)
+
+      ack_grows : Grows w.completions ack_cs
+      ack_grows = kept_grows w.completions cq (acking c') ack_low refl
+
+      pub ack_steps : (w1 w' : View) → w1 ≡ with_completes w cq (acking c') → w' ≡ with_progress w1 t freed → Steps d programs w (suc t) (Some (AckMade cq c'.polled)) w'
+      ack_steps w1 w' one two =
+          thread_steps d programs w w' (with_progress (with_completes w cq (acking c')) t freed) t (Acking cq) others (Ack cq c'.polled) (AckMade cq c'.polled) sound
+          (record {
+            stands = stands_progress d programs (with_completes w cq (acking c')) (stands_completes d programs w sound.stands cq (acking c') ack_low refl refl (sound.stands.polled cq) ack_grows) t freed a.low tt;
+            owes = ack_owes;
+            left = all_kept programs w.completions ack_cs (slice_set w.threads t freed) ack_grows (stands_progress d programs w sound.stands t freed a.low tt).settles ∙ dues_now d programs w sound.stands t p a freed;
+            answers = refl;
+            lowest = tt;
+            goes = subst (λ n. Goes (length d.qps) (most_on programs) v (suc t) (Ack cq n) (slice_set (dues_in programs w) t others)) ack_index (ack_goes (length d.qps) (most_on programs) v (dues_in programs w) t cq others sound.sane ack_owes);
+            queues = ack_queues;
+            grows = ack_grows;
+          })
+          refl
+          tt
+          (two ∙ ap (λ (x : View). with_progress x t freed) one)
+
+    -- the retirement of the oldest
+    module _ (some_left : left ≢ 0) (x : Done) (there : slice_get c'.published first ≡ Some x) where
+      one_less : settling_due first left ≡ Retiring (Send x.qp) ∷ settling_due (first + 1) (left - 1)
+      one_less =
+          let back : left ≡ suc (left - 1) = omega (arith, some_left) in
+          let more : suc first ≡ first + 1 = omega arith in
+          let split : drop first c'.published ≡ x ∷ drop (first + 1) c'.published =
+          drop-cons c'.published first x (omega (arith, settle_within, some_left))
+          ∙ ap (λ (y : Done). y ∷ drop (suc first) c'.published) (get_or_from_slice_get c'.published first x x there)
+          ∙ ap (λ k. x ∷ drop k c'.published) more in
+          ap (settling_due first) back
+          ∙ ap (λ (ds : List Done). map retiring_of (take (suc (left - 1)) ds) ++ Acking cq ∷ []) split
+
+      abbrev retire_rest : List Due
+      retire_rest = settling_due (first + 1) (left - 1) ++ others
+
+      retire_owed : dues_of (calls_of t) w.completions p ≡ Retiring (Send x.qp) ∷ retire_rest
+      retire_owed = settle_owed ∙ ap (λ (ds : List Due). ds ++ others) one_less
+
+      retire_owes : Owes (dues_in programs w) t (Retiring (Send x.qp)) retire_rest
+      retire_owes = owes_there d programs w sound.stands t p a (Retiring (Send x.qp)) retire_rest retire_owed
+
+      retire_lives : v.pair_lives x.qp ≡ true
+      retire_lives =
+          let q = (proper_at v.pair_lives v.completions_live (free_on v) (dues_in programs w) t (Retiring (Send x.qp)) retire_rest sound.sane.owing retire_owes).0 in
+          let same : q.qp ≡ x.qp = cc q.is in
+          subst (λ k. v.pair_lives k ≡ true) same q.living
+
+      abbrev s : Sends
+      s = sends_at w.queues (place_of x.qp)
+
+      queue_is : v.queues (Send x.qp) ≡ s.queue
+      queue_is = sends_is d programs w sound.stands x.qp retire_lives
+
+      pub retires_at : RetiresAt w cq first
+      retires_at = record {
+        completion = x;
+        there = there;
+        queue = (has_place d programs w sound.stands x.qp retire_lives).low;
+        ends = let same : length (v.queues (Send x.qp)).ends ≡ length s.queue.ends = ap (λ (u : WorkQueue). length u.ends) queue_is in omega (arith, same, retire_there (length d.qps) (most_on programs) v (dues_in programs w) t x.qp retire_rest sound.sane retire_owes);
+      }
+
+      retire_queues : (number : ℕ) → after v (Retire (Send x.qp) number) ≡ verbs_of d (with_sends w (place_of x.qp) (retiring s number))
+      retire_queues number =
+          ap (λ (u : WorkQueue). with_queue v (Send x.qp) (rows.retire u number)) queue_is
+          ∙ sym (sends_set d programs w sound.stands x.qp (retiring s number) retire_lives)
+
+      retire_now : (number : ℕ) (more : List ℕ) → s.queue.ends ≡ number ∷ more → (w' : View) → w' ≡ with_progress (with_sends w (place_of x.qp) (retiring s number)) t (settling_at (first + 1) (left - 1)) → Steps d programs w (suc t) (Some (RetireMade x.qp number)) w'
+      retire_now number more oldest w' is =
+          let within : SettlesWithin w.completions (Settle cq (first + 1) (left - 1)) = omega (arith, settle_within, some_left) in
+          thread_steps d programs w w' (with_progress (with_sends w (place_of x.qp) (retiring s number)) t (settling_at (first + 1) (left - 1))) t (Retiring (Send x.qp)) retire_rest (Retire (Send x.qp) number) (RetireMade x.qp number) sound
+          (record {
+            stands = stands_progress d programs (with_sends w (place_of x.qp) (retiring s number)) (stands_sends d programs w sound.stands (place_of x.qp) (retiring s number) (has_place d programs w sound.stands x.qp retire_lives).low (record { posted = refl; ends = refl; room = refl })) t (settling_at (first + 1) (left - 1)) a.low within;
+            owes = retire_owes;
+            left = dues_now d programs w sound.stands t p a (settling_at (first + 1) (left - 1));
+            answers = refl;
+            lowest = tt;
+            goes = retire_goes (length d.qps) (most_on programs) v (dues_in programs w) t x.qp number more retire_rest sound.sane retire_owes (ap (λ (u : WorkQueue). u.ends) queue_is ∙ oldest);
+            queues = retire_queues number;
+            grows = none_grows w.completions;
+          })
+          refl
+          tt
+          is
+
+    pub settle_there : left ≢ 0 → first < length c'.published
+    settle_there some_left = omega (arith, settle_within, some_left)
+
+    pub settle_low : left ≢ 0 → cq < length w.completions
+    settle_low some_left = by w.completions cq (settle_there some_left)
+      where
+        by : (cs : List Completes) (k : ℕ) → first < length (published_at cs k) → k < length cs
+        by [] k l = absurd (omega (arith, l))
+        by (y ∷ cs) zero l = omega arith
+        by (y ∷ cs) (suc k) l = omega (arith, by cs k l)
+
+    pub retire_steps : (some_left : left ≢ 0) (made : Made) (w1 w' : View) → IsRetire w cq first made w1 → w' ≡ with_progress w1 t (settling_at (first + 1) (left - 1)) → Steps d programs w (suc t) (Some made) w'
+    retire_steps some_left made w1 w' r is =
+        subst (λ (m : Made). Steps d programs w (suc t) (Some m) w') (sym r.made_is)
+        (retire_now some_left r.completion r.there r.number r.others r.oldest w' (is ∙ ap (λ (y : View). with_progress y t (settling_at (first + 1) (left - 1))) r.now_is))
+
+    pub retires_here : left ≢ 0 → RetiresAt w cq first
+    retires_here some_left = retires_at some_left (slice_index_or c'.published first none_done) (there_at c'.published first (settle_there some_left))
+      where
+        there_at : (xs : List Done) (k : ℕ) → k < length xs → slice_get xs k ≡ Some (slice_index_or xs k none_done)
+        there_at [] k l = absurd (omega (arith, l))
+        there_at (y ∷ xs) zero l = refl
+        there_at (y ∷ xs) (suc k) l = there_at xs k (omega (arith, l))

@@ -1,248 +1,232 @@
 -- The run before its first turn.
-use Rattle.std.proofs.Common.{◌≡◌, ◌≢◌, ℕ, zero, suc, ◌^◌, ◌<◌, ◌≤◌, ◌==◌, ◌⊎◌, inl, inr, Bool, true, false, ◌||◌, if◌then◌else◌, nat_lt, List, [], ◌∷◌, length, map, replicate, refl, sym, ◌∙◌, ap, subst, arith, slice_index_or}
-use Rattle.std.specs.List.{flat_map, list_any, sum_by}
-use Rattle.std.proofs.lemmas.List.Folds.{list_any-append}
-use Rattle.std.proofs.lemmas.List.Sums.{sum_by-append}
-use Rattle.std.proofs.lemmas.Bool.{eqb-true, eq-eqb, ltb-true, ltb-false}
+use Rattle.std.proofs.Common.{◌≡◌, ◌≢◌, ℕ, zero, suc, ◌+◌, ◌-◌, ◌^◌, ◌<◌, ◌≤◌, ◌==◌, Bool, true, false, if◌then◌else◌, List, [], ◌∷◌, ◌++◌, length, map, replicate, refl, sym, ◌∙◌, ap, subst, arith, slice_index_or, slice_get, Option, None, Some}
+use Rattle.std.specs.List.{flat_map, All, list_all, AllByRecursion, enumerate_from}
+use Rattle.std.specs.Option.{option_map_or}
+use Rattle.std.proofs.lemmas.Bool.{and_parts, and_from, le-leb, lt-ltb, cond-true}
 use Rattle.std.proofs.lemmas.List.{length-map, length-replicate}
-use Rattle.std.proofs.Math.ListN.{get_or-eq_default}
+use Rattle.std.proofs.lemmas.List.FromFn.{length-enumerate_from}
 use Rattle.std.proofs.Math.Pow.{pow_mono}
-use Rattle.verbs_model.specs.Family.{put}
 use Rattle.verbs_model.specs.declared.call.Call.{Call}
-use Rattle.verbs_model.specs.declared.call.Call.TheVariants.{Post as PostCall, Poll as PollCall, Drain}
-use Rattle.verbs_model.specs.declared.completion.Queue.{Queue}
 use Rattle.verbs_model.specs.declared.completion.Queue.TheVariants.{Send}
 use Rattle.verbs_model.specs.declared.declaration.CqLine.{CqLine}
 use Rattle.verbs_model.specs.declared.declaration.QpLine.{QpLine}
 use Rattle.verbs_model.specs.declared.declaration.Lines.{Lines}
 use Rattle.verbs_model.specs.declared.declaration.TheConstants.{FIRST_QP}
-use Rattle.verbs_model.specs.declared.request.Item.TheVariants.{Request as TheRequest}
+use Rattle.verbs_model.specs.declared.state.QueuePair.{QueuePair}
+use Rattle.verbs_model.specs.Beginning.{both_queues, pair_from}
+use Rattle.verbs_model.specs.Lines.{is_among, is_cq_line, is_qp_line}
+use Rattle.verbs_model.specs.Start.{start, fresh_queue, no_queue, fresh_completions, no_completions, for_line}
 use Rattle.verbs_model.specs.State.{WorkQueue, CompletionQueue, Verbs}
-use Rattle.verbs_model.specs.Lines.{is_among}
-use Rattle.verbs_model.specs.Start.{start, for_line, fresh_queue, no_queue, fresh_completions}
-use Rattle.verbs_model.specs.Answered.{Due, Posting, Draining, due_by}
-use Rattle.verbs_model.specs.Same.{same_queue}
-use Rattle.verbs_model.proofs.Sameness.{same_queue-true}
-use Rattle.scenario_text.specs.Grammar.{IsFirstPath, IsScenario, StartsAtZero, IsOfOneThread, posts_on}
-use Rattle.scenario_text.specs.Limits.{posted_by, posted_on}
+use Rattle.verbs_model.specs.Tables.{Tables, state_of}
+use Rattle.verbs_model.specs.Answered.{Due, due_by}
+use Rattle.verbs_model.proofs.Beginnings.{first_tables, state_of-first, length-pairs}
+use Rattle.verbs_model.proofs.Families.{among}
+use Rattle.scenario_text.specs.Grammar.{StartsAtZero, HasRoom}
+use Rattle.scenario_text.specs.Limits.{posted_on, completing_into}
+use Rattle.scenario_text.specs.Running.{CanRun}
 use Rattle.scenario_text.specs.declared.scenario.ScenarioParts.{ScenarioParts}
-use Rattle.world_core.specs.Fresh.{first_progress, fresh_view}
-use Rattle.world_core.specs.View.{View}
-use Rattle.world_core.specs.Machine.{the_queue, queue_of, completions_of, all_dues, dues_at, running_of, start_running}
-use Rattle.world_core.specs.Sound.{Owing, Sound, AcceptFits, free_of, none_done, IsOwnCall, items_due, posts_due, retires_due, over_dues}
-use Rattle.world_core.proofs.Dues.{sum_by-cons}
-use Rattle.world_core.proofs.Entries.{running}
-use Rattle.world_core.specs.declared.run.Posted.{Posted}
-use Rattle.world_core.proofs.Families.{put_same}
-use Rattle.world_core.proofs.Owing.{rest_fits}
-use Rattle.world_core.proofs.Settings.{setting_of, first_cq, first_qp, queue_is, completions_is}
+use Rattle.world_core.specs.declared.run.Progress.{Progress}
+use Rattle.world_core.specs.Fresh.{fresh_view, fresh_sends_of, fresh_completes_of, size_at}
+use Rattle.world_core.specs.Kept.{Sends, Completes, no_sends, no_completes, kept_completions}
+use Rattle.world_core.specs.Machine.{both_of, tables_of, verbs_of, all_dues, dues_at, running_of, start_running, at_call}
+use Rattle.world_core.specs.Sane.{Sane, QueueSane, CompletionsSane, IsPair, numbers_in, waiting, items_on, retires_on, over_dues, into, taken_of, free_on}
+use Rattle.world_core.specs.Sound.{Sound, Stands, SettlesWithin}
+use Rattle.world_core.specs.View.{View, sends_at, completes_at}
 use Rattle.world_core.specs.World.{Leads}
+use Rattle.world_core.proofs.Calling.{first_dues, first_items, first_retires, first_poster, first_proper, programs_drain}
+use Rattle.world_core.proofs.Declared.{Declares, declares_by, LineAt, line_at, send_cq_live, send_log_low, pair_is, completing_is, completing_has, room_for, size_is}
+use Rattle.world_core.proofs.Entries.{running, most_on, low_from_get}
 
-pub first_dues : (programs : List (List Call)) → all_dues programs (replicate (length programs) first_progress) ≡ map (flat_map due_by) programs
-first_dues [] = refl
-first_dues (p ∷ programs) = ap (λ ds. flat_map due_by p ∷ ds) (first_dues programs)
+-- A fresh run stands for the start
+
+queues_first : (d : Lines) (ls : List QpLine) → both_of ls (map (fresh_sends_of d) ls) ≡ flat_map both_queues ls
+queues_first d [] = refl
+queues_first d (l ∷ ls) = ap (λ (us : List WorkQueue). fresh_queue l.send_log l.segments ∷ fresh_queue l.recv_log l.segments ∷ us) (queues_first d ls)
+
+completions_first : (ls : List CqLine) → All StartsAtZero ls → map kept_completions (map fresh_completes_of ls) ≡ map fresh_completions ls
+completions_first [] zeroth = refl
+completions_first (l ∷ ls) zeroth =
+    ap (λ (n : ℕ). record { size = 2 ^ l.log; produced = n; acked = n; unpolled = [] } ∷ map kept_completions (map fresh_completes_of ls)) (sym (zeroth 0 l (omega arith)))
+    ∙ ap (λ (cs : List CompletionQueue). fresh_completions l ∷ cs) (completions_first ls (λ k e low. zeroth (suc k) e (omega (arith, low))))
+
+pub first_verbs : (d : Lines) (threads : ℕ) → All StartsAtZero d.cqs → verbs_of d (fresh_view d threads) ≡ start d
+first_verbs d threads zeroth =
+    ap (λ (us : List WorkQueue). state_of (record (tables_of d (fresh_view d threads)) { queues = us })) (queues_first d d.qps)
+    ∙ ap (λ (cs : List CompletionQueue). state_of (record (first_tables d) { completions = cs })) (completions_first d.cqs zeroth)
+    ∙ state_of-first d
+
+pub dues_first : (programs : List (List Call)) (cs : List Completes) → all_dues programs cs (replicate (length programs) (at_call 0)) ≡ first_dues programs
+dues_first [] cs = refl
+dues_first (p ∷ programs) cs = ap (λ (dues : List (List Due)). flat_map due_by p ∷ dues) (dues_first programs cs)
+
+-- The start keeps all bounds
 
 emptied : WorkQueue → WorkQueue
 emptied u = record u { posted = []; taken = 0; retired = 0; ends = [] }
 
-empty_if : (b : Bool) (l : QpLine) → emptied (if b then fresh_queue l.send_log l.segments else no_queue) ≡ (if b then fresh_queue l.send_log l.segments else no_queue)
+empty_queue : (d : Lines) (qp : ℕ) → emptied ((start d).queues (Send qp)) ≡ (start d).queues (Send qp)
 unfolding emptied
-empty_if true l = refl
-empty_if false l = refl
+empty_queue d qp = by (is_among FIRST_QP (length d.qps) qp) (slice_get d.qps (qp - FIRST_QP))
+  where
+    by : (b : Bool) (o : Option QpLine) → emptied (if b then option_map_or (λ (l : QpLine). fresh_queue l.send_log l.segments) o no_queue else no_queue) ≡ (if b then option_map_or (λ (l : QpLine). fresh_queue l.send_log l.segments) o no_queue else no_queue)
+    by true None = refl
+    by true (Some l) = refl
+    by false o = refl
 
-empty_at : (qps : List QpLine) → emptied (for_line FIRST_QP qps (λ (l : QpLine). fresh_queue l.send_log l.segments) no_queue FIRST_QP) ≡ for_line FIRST_QP qps (λ (l : QpLine). fresh_queue l.send_log l.segments) no_queue FIRST_QP
+zeroed : CompletionQueue → CompletionQueue
+zeroed c = record c { produced = 0; acked = 0; unpolled = [] }
+
+all_zero : (ls : List CqLine) (k : ℕ) → All StartsAtZero ls → zeroed (option_map_or fresh_completions (slice_get ls k) no_completions) ≡ option_map_or fresh_completions (slice_get ls k) no_completions
+unfolding zeroed
+all_zero [] k zeroth = refl
+all_zero (l ∷ ls) zero zeroth = ap (λ (n : ℕ). record { size = 2 ^ l.log; produced = n; acked = n; unpolled = [] }) (sym (zeroth 0 l (omega arith)))
+all_zero (l ∷ ls) (suc k) zeroth = all_zero ls k (λ i e low. zeroth (suc i) e (omega (arith, low)))
+
+empty_completions : (d : Lines) (cq : ℕ) → All StartsAtZero d.cqs → zeroed ((start d).completions cq) ≡ (start d).completions cq
+unfolding zeroed
+empty_completions d cq zeroth = by (is_among 0 (length d.cqs) cq)
+  where
+    by : (b : Bool) → zeroed (if b then option_map_or fresh_completions (slice_get d.cqs (cq - 0)) no_completions else no_completions) ≡ (if b then option_map_or fresh_completions (slice_get d.cqs (cq - 0)) no_completions else no_completions)
+    by true = all_zero d.cqs (cq - 0) zeroth
+    by false = refl
+
+queue_first : (u : WorkQueue) (waits : List ℕ) (items retired total : ℕ) → emptied u ≡ u → waits ≡ [] → items ≤ total → retired ≡ 0 → QueueSane u waits items retired total
 unfolding emptied
-empty_at [] = refl
-empty_at (l ∷ ls) = empty_if (is_among FIRST_QP (length (l ∷ ls)) FIRST_QP) l
+queue_first u waits items retired total empty none le zeroth =
+    subst (λ (x : WorkQueue). QueueSane x waits items retired total) empty
+    (subst (λ (ns : List ℕ). QueueSane (emptied u) ns items retired total) (sym none) (record { taken = omega arith; outstanding = omega arith; under_way = omega arith; nops = tt; posts = omega (arith, le); retires = zeroth }))
 
--- the completion queue begins at index 0
-pub BeginsAtZero : Lines → Type 0
-BeginsAtZero d = record ((start d).completions 0) { produced = 0; acked = 0; unpolled = [] } ≡ (start d).completions 0
+module _ (s : ScenarioParts) (can : CanRun s) where
+  abbrev d : Lines
+  d = s.lines
 
-verbs : Lines → (Queue → WorkQueue) → (ℕ → CompletionQueue) → Verbs
-verbs d queues completions = record (start d) { queues = queues; completions = completions }
+  abbrev programs : List (List Call)
+  programs = s.programs
 
-verbs_both : (d : Lines) (f g : Queue → WorkQueue) (h k : ℕ → CompletionQueue) → f ≡ g → h ≡ k → verbs d f h ≡ verbs d g k
-verbs_both d f g h k e e' = ap (λ x. verbs d x h) e ∙ ap (verbs d g) e'
+  abbrev v : Verbs
+  v = start d
 
--- a fresh run stands for the start
-pub fresh_running : (d : Lines) (programs : List (List Call)) → BeginsAtZero d → running_of d programs (fresh_view d (length programs)) ≡ start_running d programs
-unfolding verbs emptied BeginsAtZero
-fresh_running d programs zeroth =
-    let w : View = fresh_view d (length programs) in
-    let same : verbs d (put same_queue (start d).queues the_queue (queue_of d w)) (put (λ (m n : ℕ). m == n) (start d).completions 0 (completions_of d w)) ≡ verbs d (start d).queues (start d).completions =
-    verbs_both d _ _ _ _ (put_same same_queue (start d).queues the_queue (queue_of d w) (λ q e. same_queue-true q the_queue e) (sym (empty_at d.qps))) (put_same (λ (m n : ℕ). m == n) (start d).completions 0 (completions_of d w) (λ n e. eqb-true n 0 e) (sym zeroth)) in
-    ap (λ (v : Verbs). running v (dues_at (all_dues programs (replicate (length programs) first_progress)))) same ∙ ap (λ (ds : List (List Due)). running (start d) (dues_at ds)) (first_dues programs)
+  parts : Declares d
+  parts = declares_by d can.declared
 
--- the sums over what the calls owe
+  qp_line : (qp : ℕ) → v.pair_lives qp ≡ true → LineAt (is_qp_line d) d.qps (qp - FIRST_QP)
+  qp_line qp lives = line_at (is_qp_line d) d.qps (qp - FIRST_QP) parts.qps (among FIRST_QP (length d.qps) qp lives).1
 
-drains_items : (n cq : ℕ) → sum_by items_due (replicate n (Draining cq)) ≡ 0
-drains_items zero cq = refl
-drains_items (suc n) cq = drains_items n cq
+  send_cq_is : (qp : ℕ) (lives : v.pair_lives qp ≡ true) (l : QpLine) → slice_get d.qps (qp - FIRST_QP) ≡ Some l → (v.pairs qp).send_cq ≡ l.send_cq
+  send_cq_is qp lives l there = ap (λ (p : QueuePair). p.send_cq) (pair_is d qp l lives there)
 
-call_items : (c : Call) → IsOwnCall c → sum_by items_due (due_by c) ≡ posted_by FIRST_QP c
-call_items (PostCall qp requests) own =
-    let long : sum_by items_due (Posting (Send qp) (map TheRequest requests) ∷ []) ≡ length requests = sum_by-cons items_due (Posting (Send qp) (map TheRequest requests)) [] ∙ simp length-map (omega arith) in
-    long ∙ sym (ap (λ b. if b then length requests else 0) (eq-eqb qp FIRST_QP own.0))
-call_items (PollCall cq most) own = refl
-call_items (Drain cq count) own = drains_items count cq
+  lives_from : (k : ℕ) → k < length d.qps → v.pair_lives (FIRST_QP + k) ≡ true
+  lives_from k low = and_from _ _ (le-leb FIRST_QP (FIRST_QP + k) (omega arith)) (lt-ltb (FIRST_QP + k - FIRST_QP) (length d.qps) (omega (arith, low)))
 
-calls_items : (calls : List Call) → ((n : ℕ) → IsOwnCall (slice_index_or calls n (PollCall 0 1))) → sum_by items_due (flat_map due_by calls) ≡ sum_by (posted_by FIRST_QP) calls
-calls_items [] own = refl
-calls_items (c ∷ calls) own = omega (arith, sum_by-append items_due (due_by c) (flat_map due_by calls), call_items c (own 0), calls_items calls (λ n. own (suc n)), sum_by-cons (posted_by FIRST_QP) c calls)
+  first_pair : (qp : ℕ) → v.pair_lives qp ≡ true → IsPair (length d.qps) v.pairs v.completions_live qp
+  first_pair qp lives =
+      let p = among FIRST_QP (length d.qps) qp lives in
+      let l = qp_line qp lives in
+      record { least = p.0; most = p.1; home = ap v.completions_live (send_cq_is qp lives l.line l.there) ∙ send_cq_live d l.line l.passed }
 
-pub programs_items : (programs : List (List Call)) → ((t n : ℕ) → IsOwnCall (slice_index_or (slice_index_or programs t []) n (PollCall 0 1))) → over_dues items_due (map (flat_map due_by) programs) ≡ posted_on FIRST_QP programs
-programs_items [] own = refl
-programs_items (p ∷ programs) own =
-    omega (arith, sum_by-cons (λ (ds : List Due). sum_by items_due ds) (flat_map due_by p) (map (flat_map due_by) programs), calls_items p (own 0), programs_items programs (λ t. own (suc t)), sum_by-cons (λ (calls : List Call). sum_by (posted_by FIRST_QP) calls) p programs)
+  no_waits : (qp : ℕ) → waiting v qp ≡ []
+  unfolding zeroed
+  no_waits qp = ap (λ (c : CompletionQueue). numbers_in qp c.unpolled ++ []) (sym (empty_completions d (v.pairs qp).send_cq can.completions))
 
-drains_retires : (n cq : ℕ) → sum_by retires_due (replicate n (Draining cq)) ≡ 0
-drains_retires zero cq = refl
-drains_retires (suc n) cq = drains_retires n cq
+  first_into : (cq : ℕ) → into v.pairs (most_on programs) cq FIRST_QP (length d.qps) ≡ completing_into cq FIRST_QP d.qps programs
+  first_into cq =
+      completing_is v.pairs programs cq FIRST_QP d.qps
+      (λ k l there.
+      let back : FIRST_QP + k - FIRST_QP ≡ k = omega arith in
+      let here : slice_get d.qps (FIRST_QP + k - FIRST_QP) ≡ Some l = ap (slice_get d.qps) back ∙ there in
+      send_cq_is (FIRST_QP + k) (lives_from k (low_from_get d.qps k l there)) l here)
 
-call_retires : (c : Call) → sum_by retires_due (due_by c) ≡ 0
-call_retires (PostCall qp requests) = refl
-call_retires (PollCall cq most) = refl
-call_retires (Drain cq count) = drains_retires count cq
+  first_fits : (cq : ℕ) → v.completions_live cq ≡ true → into v.pairs (most_on programs) cq FIRST_QP (length d.qps) ≤ (v.completions cq).size
+  first_fits cq live =
+      let low : cq - 0 < length d.cqs = (among 0 (length d.cqs) cq live).1 in
+      let same : cq - 0 ≡ cq = omega arith in
+      let l = line_at (is_cq_line d) d.cqs cq parts.cqs (omega (arith, low)) in
+      let here : slice_get d.cqs (cq - 0) ≡ Some l.line = ap (slice_get d.cqs) same ∙ l.there in
+      let is : v.completions cq ≡ fresh_completions l.line = cond-true _ _ _ live ∙ ap (λ (o : Option CqLine). option_map_or fresh_completions o no_completions) here in
+      let size : (v.completions cq).size ≡ 2 ^ l.line.log = ap (λ (c : CompletionQueue). c.size) is in
+      omega (arith, size, first_into cq, room_for d programs cq l.line can.room (omega (arith, low)) l.there)
 
-calls_retires : (calls : List Call) → sum_by retires_due (flat_map due_by calls) ≡ 0
-calls_retires [] = refl
-calls_retires (c ∷ calls) = omega (arith, sum_by-append retires_due (due_by c) (flat_map due_by calls), call_retires c, calls_retires calls)
+  first_completions : (cq : ℕ) → CompletionsSane v.pair_lives v.pairs (v.completions_live cq) cq (v.completions cq) 0 (into v.pairs (taken_of v) cq FIRST_QP (length d.qps)) (into v.pairs (most_on programs) cq FIRST_QP (length d.qps))
+  unfolding zeroed
+  first_completions cq =
+      subst (λ (c : CompletionQueue). c.size ≡ (v.completions cq).size → CompletionsSane v.pair_lives v.pairs (v.completions_live cq) cq c 0 (into v.pairs (taken_of v) cq FIRST_QP (length d.qps)) (into v.pairs (most_on programs) cq FIRST_QP (length d.qps))) (empty_completions d cq can.completions)
+      (λ size. record { homed = tt; acked = omega arith; produced = omega arith; fits = λ live. omega (arith, size, first_fits cq live) })
+      refl
 
-pub programs_retires : (programs : List (List Call)) → over_dues retires_due (map (flat_map due_by) programs) ≡ 0
-programs_retires [] = refl
-programs_retires (p ∷ programs) = omega (arith, sum_by-cons (λ (ds : List Due). sum_by retires_due ds) (flat_map due_by p) (map (flat_map due_by) programs), calls_retires p, programs_retires programs)
+  pub first_sane : Sane (length d.qps) (most_on programs) v (first_dues programs)
+  first_sane = record {
+    lives = first_pair;
+    queues = λ qp. queue_first (v.queues (Send qp)) (waiting v qp) _ _ _ (empty_queue d qp) (no_waits qp) (omega (arith, first_items qp programs)) (first_retires qp programs);
+    completions = first_completions;
+    hand = tt;
+    owing = record {
+      few = let long : length (first_dues programs) ≡ length programs = simp length-map in omega (arith, long, can.paired, can.threads);
+      poster = first_poster programs can.poster;
+      proper = first_proper d (free_on v) programs can.programs;
+    };
+  }
 
-drains_posts : (n cq : ℕ) → list_any posts_due (replicate n (Draining cq)) ≡ false
-drains_posts zero cq = refl
-drains_posts (suc n) cq = drains_posts n cq
+  -- the lists of a fresh run
+  abbrev w : View
+  w = fresh_view d (length programs)
 
-call_posts : (c : Call) → IsOwnCall c → list_any posts_due (due_by c) ≡ posts_on FIRST_QP c
-call_posts (PostCall qp requests) own = sym (eq-eqb qp FIRST_QP own.0)
-call_posts (PollCall cq most) own = refl
-call_posts (Drain cq count) own = drains_posts count cq
+  sends_there : (P : Sends → Type 0) → (ls : List QpLine) (k : ℕ) → list_all (is_qp_line d) ls ≡ true → P no_sends → ((l : QpLine) → is_qp_line d l ≡ true → P (fresh_sends_of d l)) → P (sends_at (map (fresh_sends_of d) ls) k)
+  sends_there P [] k h none each = none
+  sends_there P (l ∷ ls) zero h none each = each l (and_parts _ _ h).0
+  sends_there P (l ∷ ls) (suc k) h none each = sends_there P ls k (and_parts _ _ h).1 none each
 
-calls_posts : (calls : List Call) → ((n : ℕ) → IsOwnCall (slice_index_or calls n (PollCall 0 1))) → list_any posts_due (flat_map due_by calls) ≡ list_any (posts_on FIRST_QP) calls
-calls_posts [] own = refl
-calls_posts (c ∷ calls) own =
-    list_any-append posts_due (due_by c) (flat_map due_by calls)
-    ∙ ap (λ b. b || list_any posts_due (flat_map due_by calls)) (call_posts c (own 0))
-    ∙ ap (λ b. posts_on FIRST_QP c || b) (calls_posts calls (λ n. own (suc n)))
+  sends_line : (ls : List QpLine) (k : ℕ) (l : QpLine) → slice_get ls k ≡ Some l → sends_at (map (fresh_sends_of d) ls) k ≡ fresh_sends_of d l
+  sends_line [] k l there = absurd (cc there)
+  sends_line (x ∷ ls) zero l there = let same : x ≡ l = cc there in ap (fresh_sends_of d) same
+  sends_line (x ∷ ls) (suc k) l there = sends_line ls k l there
 
-pub program_posts : (programs : List (List Call)) → ((t n : ℕ) → IsOwnCall (slice_index_or (slice_index_or programs t []) n (PollCall 0 1))) → (t : ℕ) → list_any posts_due (slice_index_or (map (flat_map due_by) programs) t []) ≡ list_any (posts_on FIRST_QP) (slice_index_or programs t [])
-program_posts [] own zero = refl
-program_posts [] own (suc t) = refl
-program_posts (p ∷ programs) own zero = calls_posts p (own 0)
-program_posts (p ∷ programs) own (suc t) = program_posts programs (λ u. own (suc u)) t
+  completes_there : (P : Completes → Type 0) → (ls : List CqLine) (k : ℕ) → P no_completes → ((l : CqLine) → P (fresh_completes_of l)) → P (completes_at (map fresh_completes_of ls) k)
+  completes_there P [] k none each = none
+  completes_there P (l ∷ ls) zero none each = each l
+  completes_there P (l ∷ ls) (suc k) none each = completes_there P ls k none each
 
-zero_of : (c : CqLine) → c.start ≡ 0 → record (fresh_completions c) { produced = 0; acked = 0; unpolled = [] } ≡ fresh_completions c
-zero_of c zeroth = ap (λ (n : ℕ). record (fresh_completions c) { produced = n; acked = n }) (sym zeroth)
+  posted_fits : (place : ℕ) → place < length d.qps → posted_on (FIRST_QP + place) programs ≤ (sends_at w.queues place).posted_room
+  posted_fits place low =
+      let l = line_at (is_qp_line d) d.qps place parts.qps low in
+      let cq : ℕ = l.line.send_cq in
+      let live : cq - 0 < length d.cqs = (among 0 (length d.cqs) cq (send_cq_live d l.line l.passed)).1 in
+      let c = line_at (is_cq_line d) d.cqs cq parts.cqs (omega (arith, live)) in
+      let room : (sends_at w.queues place).posted_room ≡ 2 ^ c.line.log = ap (λ (x : Sends). x.posted_room) (sends_line d.qps place l.line l.there) ∙ size_is d.cqs cq c.line c.there in
+      omega (arith, room, completing_has programs FIRST_QP d.qps place l.line l.there, room_for d programs cq c.line can.room (omega (arith, live)) c.there)
 
-zero_by : (parts : ScenarioParts) → IsFirstPath parts → BeginsAtZero parts.lines
-unfolding BeginsAtZero
-zero_by parts first =
-    let cq = first_cq parts first in
-    let starts : StartsAtZero (slice_index_or parts.lines.cqs 0 cq.0) = first.queue 0 cq.0 (rw cq.1 (omega arith)) in
-    let zeroth : cq.0.start ≡ 0 = subst (λ (cs : List CqLine). StartsAtZero (slice_index_or cs 0 cq.0)) cq.1 starts in
-    subst (λ (c : CompletionQueue). record c { produced = 0; acked = 0; unpolled = [] } ≡ c) (sym (completions_is parts.lines cq.0 cq.1)) (zero_of cq.0 zeroth)
+  replicated : (n t : ℕ) → SettlesWithin w.completions (slice_index_or (replicate n (at_call 0)) t (at_call 0)).now
+  replicated zero zero = tt
+  replicated zero (suc t) = tt
+  replicated (suc n) zero = tt
+  replicated (suc n) (suc t) = replicated n t
 
-one_poster : (programs : List (List Call)) (uses : Call → Bool) → IsOfOneThread uses programs → (t u : ℕ) → t < u → (list_any uses (slice_index_or programs t []) ≡ false) ⊎ (list_any uses (slice_index_or programs u []) ≡ false)
-one_poster programs uses one t u below = by (nat_lt u (length programs)) refl
-  where
-    by : (b : Bool) → nat_lt u (length programs) ≡ b → (list_any uses (slice_index_or programs t []) ≡ false) ⊎ (list_any uses (slice_index_or programs u []) ≡ false)
-    by true e = one t u [] below (ltb-true u (length programs) e)
-    by false e = inr (ap (list_any uses) (get_or-eq_default programs [] (ltb-false u (length programs) e)))
+  first_stands : Stands d programs w
+  first_stands = record {
+    threads = simp length-replicate;
+    queues = simp length-map;
+    pairs = length-pairs d;
+    few = parts.few;
+    posted_room = posted_fits;
+    ends_room = λ place. sends_there (λ x. x.queue.room ≤ x.ends_room) d.qps place parts.qps (omega arith) (λ l h. omega arith);
+    small_room = λ place. sends_there (λ x. x.queue.room < 2 ^ 32) d.qps place parts.qps (omega arith) (λ l h. let room : 2 ^ l.send_log ≤ 2 ^ 8 = pow_mono (send_log_low d l h) in omega (arith, room));
+    published_room = λ cq. completes_there (λ c. c.size ≤ c.room) d.cqs cq (omega arith) (λ l. omega arith);
+    polled = λ cq. completes_there (λ c. c.polled ≤ length c.published) d.cqs cq (omega arith) (λ l. omega arith);
+    settles = replicated (length programs);
+  }
 
-either_poster : (programs : List (List Call)) (uses : Call → Bool) → IsOfOneThread uses programs → (t u : ℕ) → t ≢ u → (list_any uses (slice_index_or programs t []) ≡ false) ⊎ (list_any uses (slice_index_or programs u []) ≡ false)
-either_poster programs uses one t u apart = by (nat_lt t u) refl
-  where
-    by : (b : Bool) → nat_lt t u ≡ b → (list_any uses (slice_index_or programs t []) ≡ false) ⊎ (list_any uses (slice_index_or programs u []) ≡ false)
-    by true e = one_poster programs uses one t u (ltb-true t u e)
-    by false e =
-        let le : u ≤ t = ltb-false t u e in
-        let above : u < t = omega (arith, le, apart) in
-        elim (one_poster programs uses one u t above) [ inl h ↦ inr h | inr h ↦ inl h ]
+  pub first_sound : Sound d programs w
+  first_sound = record {
+    stands = first_stands;
+    sane = subst (λ (x : Verbs). Sane (length d.qps) (most_on programs) x (all_dues programs w.completions w.threads)) (sym (first_verbs d (length programs) can.completions))
+        (subst (Sane (length d.qps) (most_on programs) v) (sym (dues_first programs w.completions)) first_sane);
+    drains = programs_drain d programs can.programs;
+  }
 
-dues_fit : (free : ℕ) (programs : List (List Call)) (t : ℕ) → AcceptFits free (slice_index_or (map (flat_map due_by) programs) t [])
-dues_fit free [] zero = tt
-dues_fit free [] (suc t) = tt
-dues_fit free (p ∷ programs) zero = rest_fits free 0 p
-dues_fit free (p ∷ programs) (suc t) = dues_fit free programs t
-
--- what the threads owe at first is in bounds
-pub first_owing : (programs : List (List Call)) (w : View) → w.posted ≡ [] → w.polled ≡ w.ended → ((t n : ℕ) → IsOwnCall (slice_index_or (slice_index_or programs t []) n (PollCall 0 1))) → IsOfOneThread (posts_on FIRST_QP) programs → Owing (posted_on FIRST_QP programs) w (map (flat_map due_by) programs)
-first_owing programs w posted polled own one = record {
-  posts = let none : length w.posted ≡ 0 = ap (λ (ps : List Posted). length ps) posted in omega (arith, none, programs_items programs own);
-  poster = λ t u apart. elim (either_poster programs (posts_on FIRST_QP) one t u apart) [ inl h ↦ inl (program_posts programs own t ∙ h) | inr h ↦ inr (program_posts programs own u ∙ h) ];
-  accepts = dues_fit (free_of w) programs;
-  retires = omega (arith, programs_retires programs, polled);
-}
-
-pub first_sound : (d : Lines) (programs : List (List Call)) → ((start d).queues the_queue).room < 2 ^ 32 → posted_on FIRST_QP programs ≤ ((start d).completions 0).size
-    → ((t n : ℕ) → IsOwnCall (slice_index_or (slice_index_or programs t []) n (PollCall 0 1)))
-    → IsOfOneThread (posts_on FIRST_QP) programs
-    → Sound d programs (fresh_view d (length programs))
-first_sound d programs small fits own one =
-    record {
-      threads = simp length-replicate;
-      queues = record {
-        room = refl;
-        small_room = small;
-        posted = omega arith;
-        posted_room = fits;
-        published_room = fits;
-        outstanding = omega arith;
-        taken = omega arith;
-        published = omega arith;
-        ascending = λ i j le low. absurd (omega (arith, low));
-        numbers = none_at;
-        owed = λ k e low. absurd (omega (arith, low));
-        retired = omega arith;
-        unretired = λ i from low. absurd (omega (arith, low));
-        polled = omega arith;
-      };
-      owing = subst (Owing (posted_on FIRST_QP programs) (fresh_view d (length programs))) (sym (first_dues programs)) (first_owing programs (fresh_view d (length programs)) refl refl own one);
-    }
-  where
-    none_at : (i : ℕ) → (slice_index_or [] i none_done).number ≤ 0
-    none_at zero = omega arith
-    none_at (suc i) = omega arith
-
-no_call_at : (t n : ℕ) → IsOwnCall (slice_index_or (slice_index_or [] t []) n (PollCall 0 1))
-no_call_at zero zero = (refl, (omega arith, omega arith))
-no_call_at zero (suc n) = (refl, (omega arith, omega arith))
-no_call_at (suc t) zero = (refl, (omega arith, omega arith))
-no_call_at (suc t) (suc n) = (refl, (omega arith, omega arith))
-
-scenario_calls : (s : ScenarioParts) → IsScenario s → (t n : ℕ) → IsOwnCall (slice_index_or (slice_index_or s.programs t []) n (PollCall 0 1))
-scenario_calls s (inl e) = subst (λ (p : ScenarioParts). (t n : ℕ) → IsOwnCall (slice_index_or (slice_index_or p.programs t []) n (PollCall 0 1))) (sym e) no_call_at
-scenario_calls s (inr first) = (setting_of s first).calls
-
-scenario_poster : (s : ScenarioParts) → IsScenario s → IsOfOneThread (posts_on FIRST_QP) s.programs
-scenario_poster s (inl e) = subst (λ (p : ScenarioParts). IsOfOneThread (posts_on FIRST_QP) p.programs) (sym e) (λ i j d below low. absurd (omega (arith, low)))
-scenario_poster s (inr first) = first.poster FIRST_QP
-
-scenario_fits : (s : ScenarioParts) → IsScenario s → posted_on FIRST_QP s.programs ≤ ((start s.lines).completions 0).size
-scenario_fits s (inl e) = subst (λ (p : ScenarioParts). posted_on FIRST_QP p.programs ≤ ((start p.lines).completions 0).size) (sym e) (omega arith)
-scenario_fits s (inr first) = (setting_of s first).fits
-
-scenario_begins : (s : ScenarioParts) → IsScenario s → BeginsAtZero s.lines
-unfolding BeginsAtZero
-scenario_begins s (inl e) = subst (λ (p : ScenarioParts). BeginsAtZero p.lines) (sym e) refl
-scenario_begins s (inr first) = zero_by s first
-
-scenario_small : (s : ScenarioParts) → IsScenario s → ((start s.lines).queues the_queue).room < 2 ^ 32
-scenario_small s (inl e) = subst (λ (p : ScenarioParts). ((start p.lines).queues the_queue).room < 2 ^ 32) (sym e) (omega arith)
-scenario_small s (inr first) =
-    let qp = first_qp s first in
-    let room : 2 ^ qp.0.send_log ≤ 2 ^ 8 = pow_mono qp.2 in
-    subst (λ (u : WorkQueue). u.room < 2 ^ 32) (sym (queue_is s.lines qp.0 qp.1)) (omega (arith, room))
-
-pub scenario_sound : (s : ScenarioParts) → IsScenario s → Sound s.lines s.programs (fresh_view s.lines (length s.programs))
-scenario_sound s i = first_sound s.lines s.programs (scenario_small s i) (scenario_fits s i) (scenario_calls s i) (scenario_poster s i)
-
-pub scenario_leads : (s : ScenarioParts) → IsScenario s → Leads s.lines s.programs [] [] (running_of s.lines s.programs (fresh_view s.lines (length s.programs)))
-scenario_leads s i = record {
-  run = record { legal = tt; answered = λ t. tt; turned = tt };
-  now_is = sym (fresh_running s.lines s.programs (scenario_begins s i));
-}
+  pub first_leads : Leads d programs [] [] (running_of d programs w)
+  first_leads = record {
+    run = record { legal = tt; answered = λ t. tt; turned = tt };
+    now_is =
+        sym
+        (ap (λ (x : Verbs). running x (dues_at (all_dues programs w.completions w.threads))) (first_verbs d (length programs) can.completions)
+        ∙ ap (λ (dues : List (List Due)). running v (dues_at dues)) (dues_first programs w.completions));
+  }

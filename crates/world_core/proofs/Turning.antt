@@ -1,276 +1,166 @@
--- Turns that make nothing, and where a thread stands.
-use Rattle.std.proofs.Common.{◌≡◌, ◌≢◌, ◌⊎◌, false, ℕ, zero, suc, ◌+◌, ◌-◌, ◌<◌, ◌≤◌, List, [], ◌∷◌, ◌++◌, length, refl, sym, ◌∙◌, ap, subst, arith, Option, None, Some, slice_index_or, slice_set, slice_get, append-nil, map, take}
-use Rattle.std.proofs.lemmas.Option.{get_or_from_slice_get}
+-- What the turns of threads read and write, as the lemmas on their entries want it.
+use Rattle.std.proofs.Common.{◌≡◌, ◌≢◌, ℕ, zero, suc, ◌+◌, ◌-◌, ◌<◌, ◌≤◌, true, false, List, [], ◌∷◌, ◌++◌, length, take, drop, refl, sym, ◌∙◌, ap, subst, arith, Some, None, slice_get, slice_index_or, slice_set, min, ◌==◌}
 use Rattle.verbs_model.specs.declared.call.Call.{Call}
-use Rattle.verbs_model.specs.declared.call.Call.TheVariants.{Post as PostCall, Poll as PollCall, Drain}
+use Rattle.verbs_model.specs.declared.call.Call.TheVariants.{Poll as PollCall}
 use Rattle.verbs_model.specs.declared.declaration.Lines.{Lines}
-use Rattle.verbs_model.specs.Answered.{Due, Posting, Accepting}
-use Rattle.verbs_model.specs.Turned.{Running, IsAtRest}
-use Rattle.world_core.specs.declared.run.Progress.{Progress}
-use Rattle.world_core.specs.declared.run.Done.{Done}
-use Rattle.world_core.specs.declared.run.Now.{Now}
-use Rattle.world_core.specs.declared.run.Now.TheVariants.{Free, Accept, Settle}
-use Rattle.world_core.specs.declared.turn.Made.{Made}
-use Rattle.world_core.specs.declared.turn.Made.TheVariants.{Poll as PollMade, Ack as AckMade}
-use Rattle.world_core.specs.View.{View}
-use Rattle.world_core.specs.Machine.{the_queue, dues_of, all_dues, dues_at, verbs_of, running_of}
-use Rattle.std.specs.List.{list_any, sum_by}
-use Rattle.std.proofs.lemmas.List.{length-map, take-map}
-use Rattle.std.specs.Option.{option_to_list}
-use Rattle.verbs_model.specs.declared.declaration.TheConstants.{FIRST_QP}
-use Rattle.scenario_text.specs.Limits.{posted_on}
-use Rattle.world_core.specs.Sound.{Setting, Sound, over_dues, items_due, posts_due, retires_due, AcceptFits, IsOwnCall, free_of, count_for}
-use Rattle.world_core.specs.Steps.{Steps, TurnsTo, IsDraining, IsPostAt}
-use Rattle.verbs_model.specs.declared.completion.Queue.TheVariants.{Send}
 use Rattle.verbs_model.specs.declared.request.Request.{Request}
-use Rattle.verbs_model.specs.declared.request.Item.TheVariants.{Request as TheRequest}
-use Rattle.world_core.specs.declared.turn.Made.TheVariants.{Post as PostMade, Full}
-use Rattle.world_core.specs.Moves.{posted_of, accepting_now, settled_now, IsRetire}
-use Rattle.world_core.specs.Decoding.{requests_at, items_at}
-use Rattle.world_core.proofs.Dues.{over_dues-set, sum_by-cons}
-use Rattle.world_core.proofs.Threading.{AtThread, at_call, accepting, freed, accept_steps, threads_kept, dues_there, dues_low, call_there, whole_steps, full_steps}
-use Rattle.world_core.proofs.Settling.{draining, settling_at, begin_same, poll_steps, drain_steps, drain_rests, ended_rests, retire_steps, ended_low, ack_steps}
-use Rattle.world_core.proofs.Entries.{running}
+use Rattle.world_core.specs.declared.run.Now.{Now}
+use Rattle.world_core.specs.declared.run.Now.TheVariants.{Free, Accept}
+use Rattle.world_core.specs.declared.run.Progress.{Progress}
+use Rattle.world_core.specs.declared.turn.Made.TheVariants.{Poll as PollMade, Post as PostMade, Full}
+use Rattle.world_core.specs.Decoding.{call_at, pair_at, requests_at, published_at}
+use Rattle.world_core.specs.Kept.{Sends, Completes, no_sends, no_completes, appended, free_of, left_of, polling}
+use Rattle.world_core.specs.Machine.{at_call}
+use Rattle.world_core.specs.Moves.{accepting_now, settled_now, next_of, ended, CanEnd}
+use Rattle.world_core.specs.Sound.{Sound}
+use Rattle.world_core.specs.Steps.{Steps, IsDraining, IsFreeAt, IsPollAt, IsPostAt}
+use Rattle.world_core.specs.View.{View, place_of, sends_at, completes_at, with_sends, with_progress}
+use Rattle.world_core.proofs.Entries.{AtThread, stands_there, any_default}
+use Rattle.world_core.proofs.Posting.{post_here, post_room, post_retired, post_outstanding, whole_steps, full_steps, accept_here, accept_room, accept_steps}
+use Rattle.world_core.proofs.Settling.{poll_live, poll_steps, drain_live, drain_steps}
+use Rattle.world_core.proofs.Polling.{next_ends}
+use Rattle.world_core.proofs.Tabling.{completes_low}
 
-pub low_from_get : {X : Type 0} (xs : List X) (i : ℕ) (x : X) → slice_get xs i ≡ Some x → i < length xs
-low_from_get [] i x e = absurd (cc e)
-low_from_get (y ∷ ys) zero x e = omega arith
-low_from_get (y ∷ ys) (suc i) x e = omega (arith, low_from_get ys i x e)
+-- what was read at a place is what stands there
+pub read_sends : (ss : List Sends) (k : ℕ) (s : Sends) → k < length ss → s ≡ slice_index_or ss k s → s ≡ sends_at ss k
+read_sends ss k s low read = read ∙ any_default ss k s no_sends low
 
-pub stands_there : (programs : List (List Call)) (w : View) (t : ℕ) (p : Progress) → slice_get w.threads t ≡ Some p → AtThread programs w t p
-stands_there programs w t p e = record { low = low_from_get w.threads t p e; stands = get_or_from_slice_get w.threads t p p e }
-
--- a turn at rest
-pub rest_steps : (d : Lines) (programs : List (List Call)) (w : View) (actor : ℕ) → Sound d programs w → IsAtRest (running_of d programs w) actor → Steps d programs w actor None w
-rest_steps d programs w actor sound rest = record {
-  sound = sound;
-  turns = record { rest = rest; same = refl };
-  within = tt;
-  more = [];
-  grows = sym (append-nil w.published);
-}
-
--- what a drain makes as it begins
-abbrev pub begun : View → ℕ → ℕ → ℕ → View
-begun w t count n = record w { threads = slice_set w.threads t (draining count n) }
-
-pub begun_sound : (d : Lines) (programs : List (List Call)) (w : View) (t count n cq : ℕ) → Setting d programs → Sound d programs w → AtThread programs w t (at_call n)
-    → n < length (slice_index_or programs t [])
-    → slice_index_or (slice_index_or programs t []) n (PollCall 0 1) ≡ Drain cq count
-    → Sound d programs (begun w t count (n + 1))
-begun_sound d programs w t count n cq s sound stands low call =
-    let q = sound.queues in
-    let same = begin_same programs w t count n cq d s sound stands low call in record {
-      threads = threads_kept w t (draining count (n + 1)) (length programs) sound.threads;
-      queues = record {
-        room = q.room;
-        small_room = q.small_room;
-        posted = q.posted;
-        posted_room = q.posted_room;
-        published_room = q.published_room;
-        outstanding = q.outstanding;
-        taken = q.taken;
-        published = q.published;
-        ascending = q.ascending;
-        numbers = q.numbers;
-        owed = q.owed;
-        retired = q.retired;
-        unretired = q.unretired;
-        polled = q.polled;
-      };
-      owing = record {
-        posts = subst (λ dues. length w.posted + over_dues items_due dues ≤ posted_on FIRST_QP programs) (sym same) sound.owing.posts;
-        poster = subst (λ (dues : List (List Due)). (t u : ℕ) → t ≢ u → (list_any posts_due (slice_index_or dues t []) ≡ false) ⊎ (list_any posts_due (slice_index_or dues u []) ≡ false)) (sym same) sound.owing.poster;
-        accepts = subst (λ (dues : List (List Due)). (t : ℕ) → AcceptFits (free_of w) (slice_index_or dues t [])) (sym same) sound.owing.accepts;
-        retires = subst (λ dues. w.ended + over_dues retires_due dues ≡ w.polled) (sym same) sound.owing.retires;
-      };
-    }
-
-pub begun_running : (d : Lines) (programs : List (List Call)) (w : View) (t count n cq : ℕ) → Setting d programs → Sound d programs w → AtThread programs w t (at_call n)
-    → n < length (slice_index_or programs t [])
-    → slice_index_or (slice_index_or programs t []) n (PollCall 0 1) ≡ Drain cq count
-    → running_of d programs (begun w t count (n + 1)) ≡ running_of d programs w
-begun_running d programs w t count n cq s sound stands low call = ap (λ (dues : List (List Due)). running (verbs_of d w) (dues_at dues)) (begin_same programs w t count n cq d s sound stands low call)
-
-pub begun_steps : (d : Lines) (programs : List (List Call)) (w w' : View) (t count n cq : ℕ) (made : Option Made) → Setting d programs → Sound d programs w → AtThread programs w t (at_call n)
-    → n < length (slice_index_or programs t [])
-    → slice_index_or (slice_index_or programs t []) n (PollCall 0 1) ≡ Drain cq count
-    → Steps d programs (begun w t count (n + 1)) (suc t) made w'
-    → Steps d programs w (suc t) made w'
-begun_steps d programs w w' t count n cq made s sound stands low call steps = record {
-  sound = steps.sound;
-  turns = subst (λ (r : Running). TurnsTo programs w'.published r (suc t) made (running_of d programs w')) (begun_running d programs w t count n cq s sound stands low call) steps.turns;
-  within = steps.within;
-  more = steps.more;
-  grows = steps.grows;
-}
-
--- room for the completion that the adapter owes
-pub publish_room : (d : Lines) (programs : List (List Call)) (w : View) (x : Done) → Sound d programs w → w.owed ≡ Some x → length w.published < w.published_room
-publish_room d programs w x sound owed =
-    let q = sound.queues in
-    let one : length (option_to_list w.owed) ≡ 1 = ap (λ (o : Option Done). length (option_to_list o)) owed in
-    omega (arith, q.published, one, q.taken, q.posted, q.published_room)
-
--- a drain that takes a completion
-pub drain_takes : (d : Lines) (programs : List (List Call)) (w w1 w' : View) (t drains n count : ℕ) → Setting d programs → Sound d programs w → IsDraining w t drains n → 0 < drains → w.polled < length w.published
-    → count ≡ count_for w 1
-    → w1 ≡ record w { polled = w.polled + count }
-    → w' ≡ record w1 { threads = slice_set w1.threads t (record { now = Settle 1; to_drain = drains - 1; next = n }) }
-    → Steps d programs w (suc t) (Some (PollMade 1 w.polled count)) w'
-drain_takes d programs w w1 w' t drains n count s sound stands some low count_is first then_is =
-    let one : count ≡ 1 = omega (arith, count_is, low) in
-    let back : drains ≡ drains - 1 + 1 = omega (arith, some) in
-    let now_is : w' ≡ record w { polled = w.polled + 1; threads = slice_set w.threads t (record { now = Settle 1; to_drain = drains - 1; next = n }) } =
-    then_is
-    ∙ ap (λ (v : View). record v { threads = slice_set v.threads t (record { now = Settle 1; to_drain = drains - 1; next = n }) }) first
-    ∙ ap (λ (m : ℕ). record w { polled = w.polled + m; threads = slice_set w.threads t (record { now = Settle 1; to_drain = drains - 1; next = n }) }) one in
-    subst (λ (m : ℕ). Steps d programs w (suc t) (Some (PollMade 1 w.polled m)) w') (sym one)
-    (drain_steps d programs w w' t (drains - 1) n s sound (subst (λ (m : ℕ). AtThread programs w t (draining m n)) back (stands_there programs w t (draining drains n) stands)) low now_is)
-
--- a drain that waits
-pub drain_waits : (d : Lines) (programs : List (List Call)) (w : View) (t drains n : ℕ) → Sound d programs w → IsDraining w t drains n → 0 < drains → w.polled ≡ length w.published → Steps d programs w (suc t) None w
-drain_waits d programs w t drains n sound stands some far =
-    let back : drains ≡ drains - 1 + 1 = omega (arith, some) in
-    rest_steps d programs w (suc t) sound (drain_rests d programs w t (drains - 1) n sound (subst (λ (m : ℕ). AtThread programs w t (draining m n)) back (stands_there programs w t (draining drains n) stands)) (omega (arith, far)))
-
--- what one thread has to post is among what may still be posted
-posts_at : (d : Lines) (programs : List (List Call)) (w : View) (t : ℕ) → Sound d programs w → t < length (all_dues programs w.threads) → length w.posted + sum_by items_due (slice_index_or (all_dues programs w.threads) t []) ≤ w.posted_room
-posts_at d programs w t sound low = omega (arith, over_dues-set items_due (all_dues programs w.threads) t [] low, sound.owing.posts, sound.queues.posted_room)
-
-due_room : (d : Lines) (programs : List (List Call)) (w : View) (t : ℕ) (p : Progress) (due : Due) (rest : List Due) → Sound d programs w → AtThread programs w t p → dues_of (slice_index_or programs t []) p ≡ due ∷ rest → length w.posted + items_due due ≤ w.posted_room
-due_room d programs w t p due rest sound stands owes =
-    let items : sum_by items_due (slice_index_or (all_dues programs w.threads) t []) ≡ items_due due + sum_by items_due rest = ap (sum_by items_due) (dues_there programs w t p stands sound.threads ∙ owes) ∙ sum_by-cons items_due due rest in
-    omega (arith, posts_at d programs w t sound (dues_low programs w t p stands sound.threads), items)
-
-pub post_room : (d : Lines) (programs : List (List Call)) (w : View) (t n : ℕ) (rs : List Request) → Sound d programs w → IsDraining w t 0 n → IsPostAt (slice_index_or programs t []) n rs → length w.posted + length rs ≤ w.posted_room
-post_room d programs w t n rs sound stands post =
-    let long : length (map TheRequest rs) ≡ length rs = simp length-map in
-    omega (arith, due_room d programs w t (at_call n) (Posting (Send post.qp) (map TheRequest rs)) _ sound (stands_there programs w t (at_call n) stands) (call_there (slice_index_or programs t []) n (PostCall post.qp rs) post.low post.is_post), long)
-
-pub accept_room : (d : Lines) (programs : List (List Call)) (w : View) (t call k drains n : ℕ) → Sound d programs w → AtThread programs w t (accepting call k drains n) → length w.posted + length (take k (requests_at (slice_index_or programs t []) call)) ≤ w.posted_room
-accept_room d programs w t call k drains n sound stands =
-    let calls : List Call = slice_index_or programs t [] in
-    let long : length (take k (items_at calls call)) ≡ length (take k (requests_at calls call)) = simp (take-map, length-map) in
-    omega (arith, due_room d programs w t (accepting call k drains n) (Accepting the_queue (take k (items_at calls call))) _ sound stands refl, long)
-
-pub post_whole : (d : Lines) (programs : List (List Call)) (w w1 w' : View) (t n m : ℕ) (rs : List Request) → Setting d programs → Sound d programs w → IsDraining w t 0 n → IsPostAt (slice_index_or programs t []) n rs → m ≡ n + 1 → length rs ≤ free_of w
-    → w1 ≡ record w { posted = w.posted ++ map posted_of rs }
-    → w' ≡ record w1 { threads = slice_set w1.threads t (record { now = Free; to_drain = 0; next = m }) }
-    → Steps d programs w (suc t) (Some (PostMade n (length rs))) w'
-post_whole d programs w w1 w' t n m rs s sound stands post next fits first then_is =
-    whole_steps d programs w w' t n post.qp rs s sound (stands_there programs w t (at_call n) stands) post.low post.is_post fits
-    (then_is
-    ∙ ap (λ (v : View). record v { threads = slice_set v.threads t (at_call m) }) first
-    ∙ ap (λ (k : ℕ). record w { posted = w.posted ++ map posted_of rs; threads = slice_set w.threads t (at_call k) }) next)
-
-pub post_full : (d : Lines) (programs : List (List Call)) (w w' : View) (t n m free : ℕ) (rs : List Request) → Setting d programs → Sound d programs w → IsDraining w t 0 n → IsPostAt (slice_index_or programs t []) n rs → m ≡ n + 1 → free ≡ free_of w → free < length rs
-    → w' ≡ record w { threads = slice_set w.threads t (record { now = accepting_now n free; to_drain = 0; next = m }) }
-    → Steps d programs w (suc t) (Some (Full free (length w.posted + free) w.retired)) w'
-post_full d programs w w' t n m free rs s sound stands post next free_is few then_is =
-    subst (λ (k : ℕ). Steps d programs w (suc t) (Some (Full k (length w.posted + k) w.retired)) w') (sym free_is)
-    (full_steps d programs w w' t n post.qp rs s sound (stands_there programs w t (at_call n) stands) post.low post.is_post (subst (λ k. k < length rs) free_is few)
-    (then_is
-    ∙ ap (λ (k : ℕ). record w { threads = slice_set w.threads t (record { now = accepting_now n k; to_drain = 0; next = m }) }) free_is
-    ∙ ap (λ (k : ℕ). record w { threads = slice_set w.threads t (record { now = accepting_now n (free_of w); to_drain = 0; next = k }) }) next))
-
-slice_get-set_same : {X : Type 0} (xs : List X) (i : ℕ) (x : X) → i < length xs → slice_get (slice_set xs i x) i ≡ Some x
-slice_get-set_same [] i x low = absurd (omega (arith, low))
-slice_get-set_same (y ∷ ys) zero x low = refl
-slice_get-set_same (y ∷ ys) (suc i) x low = slice_get-set_same ys i x (omega (arith, low))
-
-any_default : {X : Type 0} (xs : List X) (n : ℕ) (d e : X) → n < length xs → slice_index_or xs n d ≡ slice_index_or xs n e
-any_default [] n d e low = absurd (omega (arith, low))
-any_default (x ∷ xs) zero d e low = refl
-any_default (x ∷ xs) (suc n) d e low = any_default xs n d e (omega (arith, low))
+pub read_completes : (cs : List Completes) (k : ℕ) (c : Completes) → k < length cs → c ≡ slice_index_or cs k c → c ≡ completes_at cs k
+read_completes cs k c low read = read ∙ any_default cs k c no_completes low
 
 -- the call that was read at a place of the thread's program
-pub call_read : (programs : List (List Call)) (t n : ℕ) (calls : List Call) (x c : Call) → calls ≡ slice_index_or programs t [] → n < length calls → x ≡ slice_index_or calls n x → x ≡ c → slice_index_or (slice_index_or programs t []) n (PollCall 0 1) ≡ c
+pub call_read : (programs : List (List Call)) (t n : ℕ) (calls : List Call) (x c : Call) → calls ≡ slice_index_or programs t [] → n < length calls → x ≡ slice_index_or calls n x → x ≡ c → call_at (slice_index_or programs t []) n ≡ c
 call_read programs t n calls x c same low read is =
-    ap (λ (cs : List Call). slice_index_or cs n (PollCall 0 1)) (sym same) ∙ any_default calls n (PollCall 0 1) x low ∙ sym read ∙ is
+    ap (λ (cs : List Call). call_at cs n) (sym same) ∙ any_default calls n (PollCall 0 1) x low ∙ sym read ∙ is
 
 pub low_there : (programs : List (List Call)) (t n : ℕ) (calls : List Call) → calls ≡ slice_index_or programs t [] → n < length calls → n < length (slice_index_or programs t [])
 low_there programs t n calls same low = subst (λ (cs : List Call). n < length cs) same low
 
--- a thread whose calls are all begun and done
-pub end_rests : (d : Lines) (programs : List (List Call)) (w : View) (t n : ℕ) (calls : List Call) → Sound d programs w → IsDraining w t 0 n → calls ≡ slice_index_or programs t [] → length calls ≤ n → Steps d programs w (suc t) None w
-end_rests d programs w t n calls sound stands same far =
-    rest_steps d programs w (suc t) sound (ended_rests d programs w t n sound (stands_there programs w t (at_call n) stands) (subst (λ (cs : List Call). length cs ≤ n) same far))
+module _ (d : Lines) (programs : List (List Call)) (w : View) (sound : Sound d programs w) where
+  -- a poll
 
-pub poll_takes : (d : Lines) (programs : List (List Call)) (w w1 w' : View) (t n cq most count : ℕ) (now : Now) → Setting d programs → Sound d programs w → IsDraining w t 0 n
-    → n < length (slice_index_or programs t [])
-    → slice_index_or (slice_index_or programs t []) n (PollCall 0 1) ≡ PollCall cq most
-    → count ≡ count_for w most
-    → now ≡ settled_now count
-    → w1 ≡ record w { polled = w.polled + count }
-    → w' ≡ record w1 { threads = slice_set w1.threads t (record { now = now; to_drain = 0; next = n + 1 }) }
-    → Steps d programs w (suc t) (Some (PollMade most w.polled count)) w'
-poll_takes d programs w w1 w' t n cq most count now s sound stands low call count_is now_is first then_is =
-    subst (λ (m : ℕ). Steps d programs w (suc t) (Some (PollMade most w.polled m)) w') (sym count_is)
-    (poll_steps d programs w w' t n cq most s sound (stands_there programs w t (at_call n) stands) low call
-    (then_is
-    ∙ ap (λ (v : View). record v { threads = slice_set v.threads t (record { now = now; to_drain = 0; next = n + 1 }) }) first
-    ∙ ap (λ (k : Now). record w { polled = w.polled + count; threads = slice_set w.threads t (record { now = k; to_drain = 0; next = n + 1 }) }) now_is
-    ∙ ap (λ (m : ℕ). record w { polled = w.polled + m; threads = slice_set w.threads t (record { now = settled_now m; to_drain = 0; next = n + 1 }) }) count_is))
+  module _ (t n cq most : ℕ) (free : IsFreeAt w t n) (poll : IsPollAt (slice_index_or programs t []) n cq most) where
+    abbrev polled : Completes
+    polled = completes_at w.completions cq
 
--- what a drain asks for as it begins
-pub drain_begins : (d : Lines) (programs : List (List Call)) (w w1 : View) (t n cq count : ℕ) → Setting d programs → Sound d programs w → IsDraining w t 0 n
-    → n < length (slice_index_or programs t [])
-    → slice_index_or (slice_index_or programs t []) n (PollCall 0 1) ≡ Drain cq count
-    → w1 ≡ begun w t count (n + 1)
-    → Setting d programs × (Sound d programs w1 × (IsDraining w1 t count (n + 1) × (0 < count)))
-drain_begins d programs w w1 t n cq count s sound stands low call e =
-    let there = stands_there programs w t (at_call n) stands in
-    let own = subst IsOwnCall call (s.calls t n) in
-    let put_there : slice_get (slice_set w.threads t (draining count (n + 1))) t ≡ Some (draining count (n + 1)) = slice_get-set_same w.threads t (draining count (n + 1)) there.low in
-    (s, (subst (Sound d programs) (sym e) (begun_sound d programs w t count n cq s sound there low call), (subst (λ (v : View). IsDraining v t count (n + 1)) (sym e) put_there, omega (arith, own.1.0))))
+    pub poll_low : cq < length w.completions
+    poll_low = completes_low d w cq (poll_live d programs w sound t n cq most free poll)
 
-pub drain_began : (d : Lines) (programs : List (List Call)) (w w1 w' : View) (t n cq count : ℕ) (made : Option Made) → Setting d programs → Sound d programs w → IsDraining w t 0 n
-    → n < length (slice_index_or programs t [])
-    → slice_index_or (slice_index_or programs t []) n (PollCall 0 1) ≡ Drain cq count
-    → w1 ≡ begun w t count (n + 1)
-    → Steps d programs w1 (suc t) made w'
-    → Steps d programs w (suc t) made w'
-drain_began d programs w w1 w' t n cq count made s sound stands low call e steps =
-    begun_steps d programs w w' t count n cq made s sound (stands_there programs w t (at_call n) stands) low call (subst (λ (v : View). Steps d programs v (suc t) made w') e steps)
+    pub poll_ends : CanEnd w.queues (next_of polled most)
+    poll_ends = next_ends d programs w sound cq most (poll_live d programs w sound t n cq most free poll)
 
-pub accept_takes : (d : Lines) (programs : List (List Call)) (w w1 w' : View) (t : ℕ) (p : Progress) (call k : ℕ) (calls : List Call) → Setting d programs → Sound d programs w → AtThread programs w t p → p.now ≡ Accept call k → calls ≡ slice_index_or programs t []
-    → w1 ≡ record w { posted = w.posted ++ map posted_of (take k (requests_at calls call)) }
-    → w' ≡ record w1 { threads = slice_set w1.threads t (record { now = Free; to_drain = p.to_drain; next = p.next }) }
-    → Steps d programs w (suc t) (Some (PostMade call k)) w'
-accept_takes d programs w w1 w' t p call k calls s sound stands now same first then_is =
-    accept_steps d programs w w' t call k p.to_drain p.next s sound (subst (λ (m : Now). AtThread programs w t (record { now = m; to_drain = p.to_drain; next = p.next })) now stands)
-    (then_is
-    ∙ ap (λ (v : View). record v { threads = slice_set v.threads t (freed p.to_drain p.next) }) first
-    ∙ ap (λ (cs : List Call). record w { posted = w.posted ++ map posted_of (take k (requests_at cs call)); threads = slice_set w.threads t (freed p.to_drain p.next) }) same)
+    pub poll_takes : (first count next : ℕ) (now : Now) (w1 w' : View) → first ≡ polled.polled → count ≡ min most (left_of polled) → next ≡ n + 1 → now ≡ settled_now cq first count
+        → w1 ≡ record w { queues = ended w.queues (next_of polled most); completions = slice_set w.completions cq (polling polled count) }
+        → w' ≡ with_progress w1 t (record { now = now; to_drain = 0; drained = cq; next = next })
+        → Steps d programs w (suc t) (Some (PollMade cq most first count)) w'
+    poll_takes first count next now w1 w' first_is count_is next_is now_is one two =
+        subst (λ k. Steps d programs w (suc t) (Some (PollMade cq most k count)) w') (sym first_is)
+        (subst (λ k. Steps d programs w (suc t) (Some (PollMade cq most polled.polled k)) w') (sym count_is)
+        (poll_steps d programs w sound t n cq most free poll w1 w'
+        (one ∙ ap (λ k. record w { queues = ended w.queues (next_of polled most); completions = slice_set w.completions cq (polling polled k) }) count_is)
+        (two
+        ∙ ap (λ (x : Now). with_progress w1 t (record { now = x; to_drain = 0; drained = cq; next = next })) (now_is ∙ ap (λ k. settled_now cq k count) first_is ∙ ap (settled_now cq polled.polled) count_is)
+        ∙ ap (λ k. with_progress w1 t (record { now = settled_now cq polled.polled (min most (left_of polled)); to_drain = 0; drained = cq; next = k })) next_is)))
 
-pub accept_fits : (d : Lines) (programs : List (List Call)) (w : View) (t : ℕ) (p : Progress) (call k : ℕ) (calls : List Call) → Sound d programs w → AtThread programs w t p → p.now ≡ Accept call k → calls ≡ slice_index_or programs t []
-    → length w.posted + length (take k (requests_at calls call)) ≤ w.posted_room
-accept_fits d programs w t p call k calls sound stands now same =
-    subst (λ (cs : List Call). length w.posted + length (take k (requests_at cs call)) ≤ w.posted_room) (sym same)
-    (accept_room d programs w t call k p.to_drain p.next sound (subst (λ (m : Now). AtThread programs w t (record { now = m; to_drain = p.to_drain; next = p.next })) now stands))
+  -- a drain
 
-pub ack_takes : (d : Lines) (programs : List (List Call)) (w w1 w' : View) (t : ℕ) (p : Progress) → Setting d programs → Sound d programs w → AtThread programs w t p → p.now ≡ Settle 0
-    → w1 ≡ record w { acked = w.polled }
-    → w' ≡ record w1 { threads = slice_set w1.threads t (record { now = Free; to_drain = p.to_drain; next = p.next }) }
-    → Steps d programs w (suc t) (Some (AckMade w.polled)) w'
-ack_takes d programs w w1 w' t p s sound stands now first then_is =
-    ack_steps d programs w w' t p.to_drain p.next s sound (subst (λ (m : Now). AtThread programs w t (record { now = m; to_drain = p.to_drain; next = p.next })) now stands)
-    (then_is ∙ ap (λ (v : View). record v { threads = slice_set v.threads t (freed p.to_drain p.next) }) first)
+  module _ (t cq drains n : ℕ) (stands : IsDraining w t cq drains n) (some : 0 < drains) where
+    abbrev drained : Completes
+    drained = completes_at w.completions cq
 
-settling_back : (programs : List (List Call)) (w : View) (t : ℕ) (p : Progress) (left : ℕ) → AtThread programs w t p → p.now ≡ Settle left → (left ≡ 0 → ⊥) → AtThread programs w t (settling_at (left - 1 + 1) p.to_drain p.next)
-settling_back programs w t p left stands now some =
-    let back : left ≡ left - 1 + 1 = omega (arith, some) in
-    subst (λ (m : ℕ). AtThread programs w t (settling_at m p.to_drain p.next)) back (subst (λ (m : Now). AtThread programs w t (record { now = m; to_drain = p.to_drain; next = p.next })) now stands)
+    pub drain_low : cq < length w.completions
+    drain_low = completes_low d w cq (drain_live d programs w sound t cq drains n stands some)
 
-pub retire_takes : (d : Lines) (programs : List (List Call)) (w w1 w' : View) (t : ℕ) (p : Progress) (left : ℕ) (made : Made) → Setting d programs → Sound d programs w → AtThread programs w t p → p.now ≡ Settle left → (left ≡ 0 → ⊥)
-    → IsRetire w made w1
-    → w' ≡ record w1 { threads = slice_set w1.threads t (record { now = Settle (left - 1); to_drain = p.to_drain; next = p.next }) }
-    → Steps d programs w (suc t) (Some made) w'
-retire_takes d programs w w1 w' t p left made s sound stands now some retire then_is =
-    retire_steps d programs w w' t (left - 1) p.to_drain p.next made w1 s sound (settling_back programs w t p left stands now some) retire
-    (then_is ∙ ap (λ (ts : List Progress). record w1 { threads = slice_set ts t (settling_at (left - 1) p.to_drain p.next) }) (ap (λ (v : View). v.threads) retire.now_is))
+    pub drain_ends : CanEnd w.queues (next_of drained 1)
+    drain_ends = next_ends d programs w sound cq 1 (drain_live d programs w sound t cq drains n stands some)
 
-pub retire_low : (d : Lines) (programs : List (List Call)) (w : View) (t : ℕ) (p : Progress) (left : ℕ) → Sound d programs w → AtThread programs w t p → p.now ≡ Settle left → (left ≡ 0 → ⊥) → w.ended < length w.published
-retire_low d programs w t p left sound stands now some =
-    ended_low d programs w t (left - 1) p.to_drain p.next sound (settling_back programs w t p left stands now some)
+    pub drain_takes : (first count : ℕ) (now : Now) (w1 w' : View) → drained.polled < length drained.published → first ≡ drained.polled → count ≡ min 1 (left_of drained) → now ≡ settled_now cq first count
+        → w1 ≡ record w { queues = ended w.queues (next_of drained 1); completions = slice_set w.completions cq (polling drained count) }
+        → w' ≡ with_progress w1 t (record { now = now; to_drain = drains - 1; drained = cq; next = n })
+        → Steps d programs w (suc t) (Some (PollMade cq 1 first count)) w'
+    drain_takes first count now w1 w' more first_is count_is now_is one two =
+        subst (λ k. Steps d programs w (suc t) (Some (PollMade cq 1 k count)) w') (sym first_is)
+        (subst (λ k. Steps d programs w (suc t) (Some (PollMade cq 1 drained.polled k)) w') (sym count_is)
+        (drain_steps d programs w sound t cq drains n stands some w1 w' more
+        (one ∙ ap (λ k. record w { queues = ended w.queues (next_of drained 1); completions = slice_set w.completions cq (polling drained k) }) count_is)
+        (two ∙ ap (λ (x : Now). with_progress w1 t (record { now = x; to_drain = drains - 1; drained = cq; next = n })) (now_is ∙ ap (λ k. settled_now cq k count) first_is ∙ ap (settled_now cq drained.polled) count_is))))
+
+  -- a post
+
+  module _ (t n qp : ℕ) (rs : List Request) (free : IsFreeAt w t n) (post : IsPostAt (slice_index_or programs t []) n qp rs) where
+    abbrev sends : Sends
+    sends = sends_at w.queues (place_of qp)
+
+    pub post_low : place_of qp < length w.queues
+    post_low = (post_here d programs w sound t n qp rs free post).place.low
+
+    -- the queue that was read
+    pub post_read : (place : ℕ) (s : Sends) → place ≡ place_of qp → s ≡ slice_index_or w.queues place s → s ≡ sends
+    post_read place s same read = read_sends w.queues (place_of qp) s post_low (read ∙ ap (λ k. slice_index_or w.queues k s) same)
+
+    pub whole_takes : (count next pending : ℕ) (p : Progress) (w1 w' : View) → count ≡ length rs → pending ≡ free_of sends.queue → count ≤ pending → next ≡ n + 1 → p ≡ at_call next → w1 ≡ with_sends w (place_of qp) (appended sends rs) → w' ≡ with_progress w1 t p
+        → Steps d programs w (suc t) (Some (PostMade n count)) w'
+    whole_takes count next pending p w1 w' count_is pending_is fits next_is p_is one two =
+        subst (λ k. Steps d programs w (suc t) (Some (PostMade n k)) w') (sym count_is)
+        (whole_steps d programs w sound t n qp rs free post w1 w' (omega (arith, count_is, pending_is, fits)) one (two ∙ ap (with_progress w1 t) (p_is ∙ ap at_call next_is)))
+
+    pub full_takes : (next pending head tail : ℕ) (now : Now) (p : Progress) (w' : View) → pending ≡ free_of sends.queue → head ≡ length sends.queue.posted + pending → tail ≡ sends.queue.retired → pending < length rs → next ≡ n + 1 → now ≡ accepting_now n pending → p ≡ at_call next
+        → w' ≡ with_progress w t (record p { now = now })
+        → Steps d programs w (suc t) (Some (Full n pending head tail)) w'
+    full_takes next pending head tail now p w' pending_is head_is tail_is less next_is now_is p_is two =
+        subst (λ k. Steps d programs w (suc t) (Some (Full n pending head k)) w') (sym tail_is)
+        (subst (λ k. Steps d programs w (suc t) (Some (Full n pending k sends.queue.retired)) w') (sym head_is)
+        (subst (λ k. Steps d programs w (suc t) (Some (Full n k (length sends.queue.posted + k) sends.queue.retired)) w') (sym pending_is)
+        (full_steps d programs w sound t n qp rs free post w' (omega (arith, pending_is, less))
+        (two
+        ∙ ap (λ (x : Now). with_progress w t (record p { now = x })) (now_is ∙ ap (accepting_now n) pending_is)
+        ∙ ap (λ (x : Progress). with_progress w t (record x { now = accepting_now n (free_of sends.queue) })) (p_is ∙ ap at_call next_is)))))
+
+  -- what was accepted
+
+  module _ (t call count : ℕ) (p : Progress) (stands : slice_get w.threads t ≡ Some p) (now : p.now ≡ Accept call count) (calls : List Call) (same : calls ≡ slice_index_or programs t []) where
+    abbrev there : AtThread w t p
+    there = stands_there w t p stands
+
+    abbrev kept : List Request
+    kept = take (min count (length (requests_at calls call))) (requests_at calls call)
+
+    pub accept_low : place_of (pair_at calls call) < length w.queues
+    accept_low = subst (λ (cs : List Call). place_of (pair_at cs call) < length w.queues) (sym same) (accept_here d programs w sound t call count p there now).place.low
+
+    pub accept_fits : length (sends_at w.queues (place_of (pair_at calls call))).queue.posted + length kept ≤ (sends_at w.queues (place_of (pair_at calls call))).posted_room
+    accept_fits =
+        subst (λ (cs : List Call). length (sends_at w.queues (place_of (pair_at cs call))).queue.posted + length (take (min count (length (requests_at cs call))) (requests_at cs call)) ≤ (sends_at w.queues (place_of (pair_at cs call))).posted_room) (sym same)
+        (accept_room d programs w sound t call count p there now)
+
+    pub accept_takes : (w1 w' : View) → w1 ≡ with_sends w (place_of (pair_at calls call)) (appended (sends_at w.queues (place_of (pair_at calls call))) kept) → w' ≡ with_progress w1 t (record { now = Free; to_drain = p.to_drain; drained = p.drained; next = p.next })
+        → Steps d programs w (suc t) (Some (PostMade call (min count (length (requests_at calls call))))) w'
+    accept_takes w1 w' one two =
+        subst (λ (cs : List Call). w1 ≡ with_sends w (place_of (pair_at cs call)) (appended (sends_at w.queues (place_of (pair_at cs call))) (take (min count (length (requests_at cs call))) (requests_at cs call))) → Steps d programs w (suc t) (Some (PostMade call (min count (length (requests_at cs call))))) w') (sym same)
+        (λ first. accept_steps d programs w sound t call count p there now w1 w' first two)
+        one
+
+    -- the same of what was read
+    module _ (qp m : ℕ) (rs : List Request) (qp_is : qp ≡ pair_at calls call) (rs_is : rs ≡ requests_at calls call) (m_is : m ≡ min count (length rs)) where
+      m_there : m ≡ min count (length (requests_at calls call))
+      m_there = m_is ∙ ap (λ (xs : List Request). min count (length xs)) rs_is
+
+      kept_is : take m rs ≡ kept
+      kept_is = ap (λ k. take k rs) m_there ∙ ap (take (min count (length (requests_at calls call)))) rs_is
+
+      pub accepted_low : place_of qp < length w.queues
+      accepted_low = subst (λ k. place_of k < length w.queues) (sym qp_is) accept_low
+
+      pub accepted_fits : length (sends_at w.queues (place_of qp)).queue.posted + length (take m rs) ≤ (sends_at w.queues (place_of qp)).posted_room
+      accepted_fits =
+          subst (λ k. length (sends_at w.queues (place_of k)).queue.posted + length (take m rs) ≤ (sends_at w.queues (place_of k)).posted_room) (sym qp_is)
+          (subst (λ (xs : List Request). length (sends_at w.queues (place_of (pair_at calls call))).queue.posted + length xs ≤ (sends_at w.queues (place_of (pair_at calls call))).posted_room) (sym kept_is) accept_fits)
+
+      pub accepted_takes : (w1 w' : View) → w1 ≡ with_sends w (place_of qp) (appended (sends_at w.queues (place_of qp)) (take m rs)) → w' ≡ with_progress w1 t (record { now = Free; to_drain = p.to_drain; drained = p.drained; next = p.next }) → Steps d programs w (suc t) (Some (PostMade call m)) w'
+      accepted_takes w1 w' one two =
+          subst (λ k. Steps d programs w (suc t) (Some (PostMade call k)) w') (sym m_there)
+          (accept_takes w1 w'
+          (one
+          ∙ ap (λ k. with_sends w (place_of k) (appended (sends_at w.queues (place_of k)) (take m rs))) qp_is
+          ∙ ap (λ (xs : List Request). with_sends w (place_of (pair_at calls call)) (appended (sends_at w.queues (place_of (pair_at calls call))) xs)) kept_is)
+          two)

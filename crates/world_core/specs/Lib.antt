@@ -1,7 +1,10 @@
+pub mod Kept
+pub mod KeptInside
 pub mod View
 pub mod Moves
 pub mod Decoding
 pub mod Machine
+pub mod Sane
 pub mod Sound
 pub mod Steps
 pub mod World

@@ -1,8 +1,8 @@
 -- What the parts of a world keep, and what they show.
-use Rattle.std.specs.Prelude.{ℕ, ◌≡◌, ◌≤◌, List, map}
+use Rattle.std.specs.Prelude.{ℕ, ◌≡◌, ◌≤◌, List, length, map}
 use Rattle.std.specs.List.{AllByRecursion}
 use Rattle.std.specs.Vec.{vec_capacity}
-use Rattle.scenario_text.specs.Grammar.{IsScenario}
+use Rattle.scenario_text.specs.Running.{CanRun}
 use Rattle.scenario_text.specs.Limits.{turn_count}
 use Rattle.verbs_model.specs.declared.call.Call.{Call}
 use Rattle.scenario_text.specs.declared.scenario.Plan.{Plan}
@@ -24,13 +24,13 @@ world_view w = record { parts = w.scenario.value; turns = map actor_of w.turns.i
 
 -- the run of a scenario after these turns
 pub record IsWorldOf (s : ScenarioParts) (ps : List (List Call)) (p : Plan) (r : View) (turns : List Turn) (turns_room : ℕ) : Type 0 where
-  pub scenario : IsScenario s
+  pub scenario : CanRun s
   pub programs : ps ≡ s.programs
   pub plan : p ≡ s.plan
   pub sound : Sound s.lines s.programs r
-  pub leads : Leads s.lines s.programs (map actor_of turns) (history_of s.programs r.published turns) (running_of s.lines s.programs r)
-  pub within : AllByRecursion (λ (t : Turn). IsWithin r.published t.made) turns
-  pub room : turn_count s.plan ≤ turns_room
+  pub leads : Leads s.lines s.programs (map actor_of turns) (history_of s.programs r.completions turns) (running_of s.lines s.programs r)
+  pub within : AllByRecursion (λ (t : Turn). IsWithin r.completions t.made) turns
+  pub room : turn_count (length s.lines.threads) s.plan ≤ turns_room
 
 abbrev pub IsWorld : Inside → Type 0
 IsWorld w = IsWorldOf w.scenario.value w.programs.items w.plan (view_of w.run) w.turns.items (vec_capacity w.turns)

@@ -71,5 +71,6 @@ pub(crate) fn copy_of_plan(alloc: Global, plan: &Plan) -> Result<Plan, AllocErro
             alloc,
             items.as_slice(),
         )?))),
+        Plan::Rounds(rounds) => Ok(Plan::Rounds(*rounds)),
     }
 }

@@ -5,9 +5,12 @@
 #![tactic(auto)]
 
 mod adapter;
+mod completions;
 mod copies;
 mod fresh;
+mod polled;
 mod run;
+mod send_queue;
 mod spelling;
 mod thread;
 mod turn;

@@ -1,45 +1,8 @@
-//! One queue pair, its completion queue and the threads that use them, as they stand between two turns.
+//! All queue pairs, completion queues and threads, as they stand between two turns.
 
-/// A posted NOP.
-#[derive(Clone, Copy, Debug, PartialEq, Eq)]
-pub struct Posted {
-    pub id: u64,
-    pub wanted: bool,
-    pub solicited: bool,
-    pub fence: bool,
-}
-
-/// A NOP that the adapter did, with its number, from 1, in the send queue.
-#[derive(Clone, Copy, Debug, PartialEq, Eq)]
-pub struct Done {
-    pub id: u64,
-    pub number: u64,
-}
-
-/// The send queue.
-#[derive(Debug, Drop)]
-pub struct SendQueue {
-    /// The most requests that may be outstanding.
-    pub room: u64,
-    /// All that was posted, in order.
-    pub posted: Vec<Posted>,
-    /// How many the adapter took.
-    pub taken: usize,
-    /// Up to which number they are retired.
-    pub retired: u64,
-}
-
-/// The completion queue.
-#[derive(Debug, Drop)]
-pub struct Completions {
-    /// All that was published, in order.
-    pub published: Vec<Done>,
-    /// How many were polled, and how many of those are retired.
-    pub polled: usize,
-    pub ended: usize,
-    /// The consumer index.
-    pub acked: u64,
-}
+use crate::completions::{Completions, Done};
+use crate::send_queue::SendQueue;
+use verbs_model::QueuePair;
 
 /// What a thread is in the middle of.
 #[derive(Clone, Copy, Debug, PartialEq, Eq)]
@@ -49,27 +12,39 @@ pub enum Now {
     /// A post, the call of this place, that found the queue full after `count` requests, which are
     /// accepted next.
     Accept { call: usize, count: usize },
-    /// A poll that took some, of which so many are still to be retired before the acknowledgement.
-    Settle(usize),
+    /// A poll of this completion queue, of which `left` completions, the first of them published as
+    /// `next`, are still to be retired before the acknowledgement.
+    Settle { cq: u32, next: usize, left: usize },
 }
 
 /// How far a thread has come.
 #[derive(Clone, Copy, Debug, PartialEq, Eq)]
 pub struct Progress {
     pub now: Now,
-    /// How many completions the call before `next` still has to drain.
+    /// How many completions the call before `next` still has to drain, and from which completion queue.
     pub to_drain: u32,
+    pub drained: u32,
     /// The place of the next call to begin.
     pub next: usize,
+}
+
+/// A completion for the completion queue of this number.
+#[derive(Clone, Copy, Debug, PartialEq, Eq)]
+pub struct Owed {
+    pub cq: u32,
+    pub done: Done,
 }
 
 /// All of it.
 #[derive(Debug, Drop)]
 pub struct Run {
-    pub queue: SendQueue,
-    pub completions: Completions,
+    /// The send queue of each queue pair, in the order of the numbers, and the queue pair.
+    pub queues: Vec<SendQueue>,
+    pub pairs: Vec<QueuePair>,
+    /// The completion queues, in the order of their numbers.
+    pub completions: Vec<Completions>,
     /// The completion that the adapter has still to publish.
-    pub owed: Option<Done>,
+    pub owed: Option<Owed>,
     /// The progress of each thread.
     pub threads: Vec<Progress>,
 }

@@ -4,66 +4,86 @@ ghost use Rattle.verbs_model.specs.declared.request.Item.TheVariants.{Request as
 ghost use Rattle.std.specs.Option.{option_to_list};
 ghost use Rattle.verbs_model.specs.Rows.{nop_completion};
 ghost use Rattle.world_core.specs.Decoding as decoding;
+ghost use Rattle.world_core.specs.Kept.{completion_of};
 
-use crate::run::Done;
-use crate::thread::requests_at;
+use crate::completions::{Completions, Done};
+use crate::thread::{pair_at, requests_at};
 use crate::turn::{Made, Turn};
 use std::alloc::{AllocError, Global};
-use verbs_model::{Call, Completion, Entry, FIRST_QP, Item, Kind, Queue, Request, Sequence, What};
+use verbs_model::{Call, Completion, Entry, Item, Kind, Queue, Request, Sequence, What};
 
 /// The entry that a turn of a thread with these calls, or of the adapter, made.
 pub(crate) fn what_by(
     alloc: Global,
     calls: &[Call],
-    published: &[Done],
+    completions: &[Completions],
     made: Made,
 ) -> Result<What, AllocError>
-    ensures { IfOk result (λ w. w ≡ decoding.what_by calls.now published.now made) }
+    ensures { IfOk result (λ w. w ≡ decoding.what_by calls.now completions.now made) }
 {
-    let queue = Queue::Send(FIRST_QP);
     match made {
         Made::Post { call, count } => {
+            let queue = Queue::Send(pair_at(calls, call));
             let items = first_items(alloc, requests_at(calls, call), count)?;
             Ok(What::Post { queue, items })
         }
         Made::Full {
+            call,
             pending,
             head,
             tail,
         } => Ok(What::PostFull {
-            queue,
+            queue: Queue::Send(pair_at(calls, call)),
             pending,
             head,
             tail,
         }),
-        Made::Poll { most, first, count } => {
-            let completions = completions_from(alloc, published, first, count)?;
+        Made::Poll {
+            cq,
+            most,
+            first,
+            count,
+        } => {
+            let completions = completions_from(alloc, published_at(completions, cq), first, count)?;
             Ok(What::Poll {
-                cq: 0,
+                cq,
                 max: u64::from(most),
                 completions,
             })
         }
-        Made::Retire { number } => Ok(What::Retire {
-            queue,
+        Made::Retire { qp, number } => Ok(What::Retire {
+            queue: Queue::Send(qp),
             count: number,
         }),
-        Made::Ack { index } => Ok(What::Ack { cq: 0, index }),
-        Made::Fetch { number } => Ok(What::Fetch { queue, number }),
-        Made::Publish { id } => Ok(What::Publish {
-            cq: 0,
-            completion: completion_of(id),
+        Made::Ack { cq, index } => Ok(What::Ack { cq, index }),
+        Made::Fetch { qp, number } => Ok(What::Fetch {
+            queue: Queue::Send(qp),
+            number,
+        }),
+        Made::Publish { cq, qp, id } => Ok(What::Publish {
+            cq,
+            completion: completion_of(qp, id),
         }),
     }
 }
 
-/// The completion of a NOP that succeeded.
-fn completion_of(id: u64) -> Completion
-    ensures { result ≡ nop_completion FIRST_QP id 0 }
+/// What was published in a completion queue; nothing where there is none of this number.
+fn published_at(completions: &[Completions], cq: u32) -> &[Done]
+    ensures { result.now ≡ decoding.published_at completions.now cq }
+{
+    match completions.get(cq as usize) {
+        Some(queue) => queue.published(),
+        None => &[],
+    }
+}
+
+/// The completion of a NOP of a queue pair that succeeded.
+fn completion_of(qp: u32, id: u64) -> Completion
+    ensures { result ≡ nop_completion qp id 0 }
 {
     Completion {
-        queue: Queue::Send(FIRST_QP),
-        qp: FIRST_QP,
+        queue: Queue::Send(qp),
+        qp,
         id,
         status: 0,
         kind: Kind::Nop,
@@ -107,13 +127,13 @@ fn completions_from(
     first: usize,
     count: usize,
 ) -> Result<Sequence<Completion>, AllocError>
-    ensures { IfOk result (λ cs. cs ≡ map decoding.completion_of (take count (drop first published.now))) }
+    ensures { IfOk result (λ cs. cs ≡ map completion_of (take count (drop first published.now))) }
 {
     let later = &published[first.min(published.len())..];
     let taken = &later[..count.min(later.len())];
     let mut completions = Vec::with_capacity(alloc, taken.len())?;
     for done in taken {
-        completions.push(completion_of(done.id))?;
+        completions.push(completion_of(done.qp, done.id))?;
     }
     Ok(Sequence::from_vec(completions))
 }
@@ -135,15 +155,15 @@ fn calls_of(programs: &[Sequence<Call>], actor: u8) -> &[Call]
 fn entry_of(
     alloc: Global,
     programs: &[Sequence<Call>],
-    published: &[Done],
+    completions: &[Completions],
     turn: Turn,
 ) -> Result<Option<Entry>, AllocError>
-    ensures { IfOk result (λ e. e ≡ decoding.entry_of programs.now published.now turn.actor turn.made) }
+    ensures { IfOk result (λ e. e ≡ decoding.entry_of programs.now completions.now turn.actor turn.made) }
 {
     match turn.made {
         None => Ok(None),
         Some(made) => {
-            let what = what_by(alloc, calls_of(programs, turn.actor), published, made)?;
+            let what = what_by(alloc, calls_of(programs, turn.actor), completions, made)?;
             Ok(Some(Entry {
                 actor: turn.actor,
                 what,
@@ -165,14 +185,14 @@ fn push_some(history: &mut Vec<Entry>, entry: Option<Entry>) -> Result<(), Alloc
 pub(crate) fn history_of(
     alloc: Global,
     programs: &[Sequence<Call>],
-    published: &[Done],
+    completions: &[Completions],
     turns: &[Turn],
 ) -> Result<Vec<Entry>, AllocError>
-    ensures { IfOk result (λ h. h.items ≡ decoding.history_of programs.now published.now turns.now) }
+    ensures { IfOk result (λ h. h.items ≡ decoding.history_of programs.now completions.now turns.now) }
 {
     let mut history = Vec::new(alloc);
     for turn in turns {
-        let entry = entry_of(alloc, programs, published, *turn)?;
+        let entry = entry_of(alloc, programs, completions, *turn)?;
         push_some(&mut history, entry)?;
     }
     Ok(history)

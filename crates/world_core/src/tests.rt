@@ -1,16 +1,18 @@
-//! A wanted NOP on its way through the queues, and the entries that tell of it.
+//! NOPs of two queue pairs on their way through the queues, and the entries that tell of them.
 
-use crate::run::{Done, Run};
+use crate::completions::{Completions, Done};
+use crate::run::Run;
+use crate::send_queue::SendQueue;
 use crate::spelling::history_of;
 use crate::turn::{Made, Turn};
 use std::alloc::Global;
 use std::test::Fail;
 use verbs_model::{
-    ADAPTER, Body, Call, Completion, Connect, CqLine, Declared, Entry, EqLine, FIRST_PD, FIRST_QP,
-    Item, Kind, Lines, Name, Object, Op, PdLine, QpLine, Queue, Request, Sequence, What,
+    ADAPTER, Body, Call, Completion, Entry, FIRST_QP, Item, Kind, Op, QpState, Queue, QueuePair,
+    Request, Sequence, What,
 };
 
-const SEND: Queue = Queue::Send(FIRST_QP);
+const OTHER_QP: u32 = FIRST_QP + 1;
 
 fn nop(alloc: Global, id: u64, wanted: bool) -> Request {
     Request {
@@ -24,10 +26,10 @@ fn nop(alloc: Global, id: u64, wanted: bool) -> Request {
 }
 
 /// The completion of a NOP.
-fn done(id: u64) -> Completion {
+fn done(qp: u32, id: u64) -> Completion {
     Completion {
-        queue: SEND,
-        qp: FIRST_QP,
+        queue: Queue::Send(qp),
+        qp,
         id,
         status: 0,
         kind: Kind::Nop,
@@ -37,117 +39,24 @@ fn done(id: u64) -> Completion {
     }
 }
 
-fn posted(items: Vec<Item>) -> Entry {
-    by_thread(What::Post {
-        queue: SEND,
-        items: Sequence::from_vec(items),
-    })
-}
-
-fn full(pending: u64, head: u64, tail: u64) -> Entry {
-    by_thread(What::PostFull {
-        queue: SEND,
-        pending,
-        head,
-        tail,
-    })
-}
-
-fn took(alloc: Global, id: u64) -> Result<Entry, Fail> {
-    let completions = vec![in alloc; done(id)]?;
-    Ok(by_thread(What::Poll {
-        cq: 0,
-        max: 1,
-        completions: Sequence::from_vec(completions),
-    }))
-}
-
-fn retired(count: u64) -> Entry {
-    by_thread(What::Retire { queue: SEND, count })
-}
-
-fn acknowledged(index: u64) -> Entry {
-    by_thread(What::Ack { cq: 0, index })
-}
-
 fn by_thread(what: What) -> Entry {
     Entry { actor: 1, what }
 }
 
-fn fetched(number: u64) -> Entry {
+fn by_adapter(what: What) -> Entry {
     Entry {
         actor: ADAPTER,
-        what: What::Fetch {
-            queue: SEND,
-            number,
-        },
+        what,
     }
 }
 
-fn published(id: u64) -> Entry {
-    Entry {
-        actor: ADAPTER,
-        what: What::Publish {
-            cq: 0,
-            completion: done(id),
-        },
-    }
-}
-
-/// One queue pair with room for two requests, connected with itself, one completion queue for four, and a thread.
-fn one_pair(alloc: Global) -> Result<Declared, Fail> {
-    let eq = EqLine {
-        name: Name::new(alloc, b"e")?,
-        log: 1,
-    };
-    let pd = PdLine {
-        name: Name::new(alloc, b"p")?,
-    };
-    let cq = CqLine {
-        name: Name::new(alloc, b"c")?,
-        log: 2,
-        ceiling: 2,
-        eq: 0,
-        start: 0,
-    };
-    let qp = QpLine {
-        name: Name::new(alloc, b"q")?,
-        pd: FIRST_PD,
-        send_cq: 0,
-        recv_cq: 0,
-        send_log: 1,
-        recv_log: 0,
-        segments: 1,
-        start: 0,
-    };
-    let order = [
-        Object::Eq(0),
-        Object::Pd(FIRST_PD),
-        Object::Cq(0),
-        Object::Qp(FIRST_QP),
-    ];
-    let connect = Connect {
-        a: FIRST_QP,
-        b: FIRST_QP,
-    };
-    let lines = Lines {
-        eqs: Sequence::from_vec(vec![in alloc; eq]?),
-        pds: Sequence::from_vec(vec![in alloc; pd]?),
-        cqs: Sequence::from_vec(vec![in alloc; cq]?),
-        qps: Sequence::from_vec(vec![in alloc; qp]?),
-        order: Sequence::from_vec(order.to_vec(alloc)?),
-        connects: Sequence::from_vec(vec![in alloc; connect]?),
-        threads: Sequence::from_vec(vec![in alloc; Name::new(alloc, b"a")?]?),
-    };
-    Ok(Declared::new(lines)?)
-}
-
-/// What a thread that posts the requests 7, 8 and 9 to a queue with two places, and drains one, makes with the
-/// adapter.
-const TURNS: [Turn; 10] = [
+/// What a thread that posts the requests 7, 8 and 9 to a queue with two places, and polls, makes with the
+/// adapter and with completions of two queue pairs in one completion queue.
+const TURNS: [Turn; 12] = [
     Turn {
         actor: 1,
         made: Some(Made::Full {
+            call: 0,
             pending: 2,
             head: 2,
             tail: 0,
@@ -163,15 +72,25 @@ const TURNS: [Turn; 10] = [
     },
     Turn {
         actor: ADAPTER,
-        made: Some(Made::Fetch { number: 1 }),
+        made: Some(Made::Fetch {
+            qp: OTHER_QP,
+            number: 1,
+        }),
     },
     Turn {
         actor: ADAPTER,
-        made: Some(Made::Fetch { number: 2 }),
+        made: Some(Made::Fetch {
+            qp: OTHER_QP,
+            number: 2,
+        }),
     },
     Turn {
         actor: ADAPTER,
-        made: Some(Made::Publish { id: 8 }),
+        made: Some(Made::Publish {
+            cq: 1,
+            qp: OTHER_QP,
+            id: 8,
+        }),
     },
     Turn {
         actor: ADAPTER,
@@ -180,18 +99,38 @@ const TURNS: [Turn; 10] = [
     Turn {
         actor: 1,
         made: Some(Made::Poll {
-            most: 1,
-            first: 0,
-            count: 1,
+            cq: 1,
+            most: 4,
+            first: 1,
+            count: 2,
         }),
     },
     Turn {
         actor: 1,
-        made: Some(Made::Retire { number: 2 }),
+        made: Some(Made::Retire {
+            qp: OTHER_QP,
+            number: 2,
+        }),
     },
     Turn {
         actor: 1,
-        made: Some(Made::Ack { index: 1 }),
+        made: Some(Made::Retire {
+            qp: FIRST_QP,
+            number: 2,
+        }),
+    },
+    Turn {
+        actor: 1,
+        made: Some(Made::Ack { cq: 1, index: 3 }),
+    },
+    Turn {
+        actor: 1,
+        made: Some(Made::Poll {
+            cq: 0,
+            most: 1,
+            first: 0,
+            count: 0,
+        }),
     },
 ];
 
@@ -202,27 +141,83 @@ fn program(alloc: Global) -> Result<Sequence<Call>, Fail> {
         nop(alloc, 9, true),
     ]?;
     let post = Call::Post {
-        qp: FIRST_QP,
+        qp: OTHER_QP,
         requests: Sequence::from_vec(requests),
     };
     Ok(Sequence::from_vec(vec![in alloc; post]?))
 }
 
+/// What was published: nothing in the first completion queue, and of both queue pairs in the second.
+fn published(alloc: Global) -> Result<Vec<Completions>, Fail> {
+    let empty = Completions::new(alloc, 1)?;
+    let mut shared = Completions::new(alloc, 2)?;
+    shared.publish(Done {
+        qp: FIRST_QP,
+        id: 4,
+        number: 1,
+    });
+    shared.publish(Done {
+        qp: OTHER_QP,
+        id: 8,
+        number: 2,
+    });
+    shared.publish(Done {
+        qp: FIRST_QP,
+        id: 5,
+        number: 2,
+    });
+    Ok(vec![in alloc; empty, shared]?)
+}
+
 fn entries(alloc: Global) -> Result<Sequence<Entry>, Fail> {
+    let send = Queue::Send(OTHER_QP);
     let items = vec![in alloc;
         Item::Request(nop(alloc, 7, false)),
         Item::Request(nop(alloc, 8, true)),
     ]?;
-    let took = took(alloc, 8)?;
+    let took = vec![in alloc; done(OTHER_QP, 8), done(FIRST_QP, 5)]?;
     let entries = vec![in alloc;
-        full(2, 2, 0),
-        posted(items),
-        fetched(1),
-        fetched(2),
-        published(8),
-        took,
-        retired(2),
-        acknowledged(1),
+        by_thread(What::PostFull {
+            queue: send,
+            pending: 2,
+            head: 2,
+            tail: 0
+        }),
+        by_thread(What::Post {
+            queue: send,
+            items: Sequence::from_vec(items)
+        }),
+        by_adapter(What::Fetch {
+            queue: send,
+            number: 1
+        }),
+        by_adapter(What::Fetch {
+            queue: send,
+            number: 2
+        }),
+        by_adapter(What::Publish {
+            cq: 1,
+            completion: done(OTHER_QP, 8)
+        }),
+        by_thread(What::Poll {
+            cq: 1,
+            max: 4,
+            completions: Sequence::from_vec(took)
+        }),
+        by_thread(What::Retire {
+            queue: send,
+            count: 2
+        }),
+        by_thread(What::Retire {
+            queue: Queue::Send(FIRST_QP),
+            count: 2
+        }),
+        by_thread(What::Ack { cq: 1, index: 3 }),
+        by_thread(What::Poll {
+            cq: 0,
+            max: 1,
+            completions: Sequence::from_vec(Vec::new(alloc))
+        }),
     ]?;
     Ok(Sequence::from_vec(entries))
 }
@@ -231,8 +226,8 @@ fn entries(alloc: Global) -> Result<Sequence<Entry>, Fail> {
 fn turns_are_spelled_as_entries(rt: HostRuntime) -> Result<(), Fail> {
     let alloc = rt.alloc();
     let programs = vec![in alloc; program(alloc)?]?;
-    let published = [Done { id: 8, number: 2 }];
-    let history = history_of(alloc, programs.as_slice(), &published, &TURNS)?;
+    let published = published(alloc)?;
+    let history = history_of(alloc, programs.as_slice(), published.as_slice(), &TURNS)?;
     let history = format!(in alloc; "{:?}", Sequence::from_vec(history))?;
     let want = format!(in alloc; "{:?}", entries(alloc)?)?;
     assert_eq!(rt; history, want);
@@ -242,11 +237,51 @@ fn turns_are_spelled_as_entries(rt: HostRuntime) -> Result<(), Fail> {
 #[test]
 fn full_queue_has_no_room(rt: HostRuntime) -> Result<(), Fail> {
     let alloc = rt.alloc();
-    let declared = one_pair(alloc)?;
     let requests = [nop(alloc, 7, false), nop(alloc, 8, true)];
-    let mut run = Run::fresh(alloc, &declared, 1)?;
-    assert!(rt; run.queue.posted.capacity() >= 2 && run.queue.room == 2);
-    run.append(&requests);
-    assert_eq!(rt; run.free(), 0);
+    let mut queue = SendQueue::new(alloc, 1, 1, 2)?;
+    queue.append(&requests);
+    assert_eq!(rt; queue.free(), 0);
+    Ok(())
+}
+
+#[test]
+fn oldest_end_is_retired_first(rt: HostRuntime) -> Result<(), Fail> {
+    let mut queue = SendQueue::new(rt.alloc(), 1, 1, 2)?;
+    queue.end(3);
+    queue.end(5);
+    assert_eq!(rt; queue.retire(), 3);
+    assert_eq!(rt; queue.retired(), 3);
+    Ok(())
+}
+
+/// A queue pair in this state, whose send queue has one request.
+fn pair_in(state: QpState) -> QueuePair {
+    QueuePair {
+        state,
+        send_cq: 0,
+        recv_cq: 0,
+    }
+}
+
+fn one_posted(alloc: Global) -> Result<SendQueue, Fail> {
+    let mut queue = SendQueue::new(alloc, 1, 1, 1)?;
+    queue.append(&[nop(alloc, 7, true)]);
+    Ok(queue)
+}
+
+#[test]
+fn lowest_pair_that_may_send_is_first(rt: HostRuntime) -> Result<(), Fail> {
+    let alloc = rt.alloc();
+    let states = [QpState::Reset, QpState::Rts, QpState::Rts];
+    let queues = vec![in alloc; one_posted(alloc)?, one_posted(alloc)?, one_posted(alloc)?]?;
+    let pairs = vec![in alloc; pair_in(states[0]), pair_in(states[1]), pair_in(states[2])]?;
+    let run = Run {
+        queues,
+        pairs,
+        completions: Vec::new(alloc),
+        owed: None,
+        threads: Vec::new(alloc),
+    };
+    assert_eq!(rt; run.first_ready(), Some(1));
     Ok(())
 }

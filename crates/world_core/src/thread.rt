@@ -1,17 +1,19 @@
 //! What the threads' entries change.
-ghost use Rattle.std.specs.Prelude.{◌≡◌, ◌+◌, ◌-◌, ◌<◌, ◌≤◌, ◌++◌, length, map, min, take, slice_set};
-ghost use Rattle.world_core.specs.Decoding.{requests_at as requests_of_call};
-ghost use Rattle.world_core.specs.Moves.{posted_of, IsRetire};
-ghost use Rattle.world_core.specs.Sound.{free_of, count_for};
-ghost use Rattle.world_core.specs.View.{view_of};
+ghost use Rattle.std.specs.Prelude.{◌≡◌, ◌+◌, ◌-◌, ◌<◌, ◌≤◌, ◌∷◌, length, map, min, take, slice_index_or};
+ghost use Rattle.world_core.specs.Decoding as decoding;
+ghost use Rattle.world_core.specs.Kept.{acking, appended, free_of};
+ghost use Rattle.world_core.specs.Moves.{IsRetire, RetiresAt};
+ghost use Rattle.world_core.specs.View.{completes_at, sends_at, view_of, with_completes, with_progress, with_sends};
+ghost use Rattle.world_core.specs.View as views;
 
-use crate::run::{Posted, Progress, Run};
+use crate::polled::place_of;
+use crate::run::{Progress, Run};
 use crate::turn::Made;
-use verbs_model::{Call, Request};
+use verbs_model::{Call, FIRST_QP, Request};
 
 /// The requests of the call at a place; none of another call than a post.
 pub(crate) fn requests_at(calls: &[Call], place: usize) -> &[Request]
-    ensures { result.now ≡ requests_of_call calls.now place }
+    ensures { result.now ≡ decoding.requests_at calls.now place }
 {
     match calls.get(place) {
         Some(Call::Post { requests, .. }) => requests.as_slice(),
@@ -19,75 +21,52 @@ pub(crate) fn requests_at(calls: &[Call], place: usize) -> &[Request]
     }
 }
 
-impl Run {
-    /// Adds these requests to the queue, which has room for them.
-    pub(crate) fn append(&mut self, requests: &[Request])
-        requires { length (view_of self.old).posted + length requests.now ≤ (view_of self.old).posted_room }
-        ensures { view_of self.new ≡ record (view_of self.old) { posted = (view_of self.old).posted ++ map posted_of requests.now } }
-    {
-        for request in requests {
-            self.queue.posted.push_reserved(Posted {
-                id: request.id,
-                wanted: request.wanted,
-                solicited: request.solicited,
-                fence: request.fence,
-            });
-        }
+/// The queue pair of the call at a place; the first where that is another call than a post.
+pub(crate) fn pair_at(calls: &[Call], place: usize) -> u32
+    ensures { result ≡ decoding.pair_at calls.now place }
+{
+    match calls.get(place) {
+        Some(Call::Post { qp, .. }) => *qp,
+        _ => FIRST_QP,
     }
+}
 
-    /// Adds the first so many of these requests.
-    pub(crate) fn append_first(&mut self, requests: &[Request], count: usize)
-        requires { length (view_of self.old).posted + length (take count requests.now) ≤ (view_of self.old).posted_room }
-        ensures { view_of self.new ≡ record (view_of self.old) { posted = (view_of self.old).posted ++ map posted_of (take count requests.now) } }
+impl Run {
+    /// Adds these requests to the queue of a queue pair, which has room for them.
+    pub(crate) fn append(&mut self, qp: u32, requests: &[Request])
+        requires there { views.place_of qp < length (view_of self.old).queues }
+        requires room { length (sends_at (view_of self.old).queues (views.place_of qp)).queue.posted + length requests.now ≤ (sends_at (view_of self.old).queues (views.place_of qp)).posted_room }
+        ensures { view_of self.new ≡ with_sends (view_of self.old) (views.place_of qp) (appended (sends_at (view_of self.old).queues (views.place_of qp)) requests.now) }
     {
-        let count = count.min(requests.len());
-        self.append(&requests[..count]);
+        self.queues[place_of(qp)].append(requests);
     }
 
     pub(crate) fn set_progress(&mut self, thread: usize, progress: Progress)
         requires { thread < length (view_of self.old).threads }
-        ensures { view_of self.new ≡ record (view_of self.old) { threads = slice_set (view_of self.old).threads thread progress } }
+        ensures { view_of self.new ≡ with_progress (view_of self.old) thread progress }
     {
         self.threads[thread] = progress;
     }
 
-    /// How many more requests the queue may hold.
-    pub(crate) fn free(&self) -> u64
-        requires retired { (view_of self.now).retired ≤ length (view_of self.now).posted }
-        requires outstanding { length (view_of self.now).posted - (view_of self.now).retired ≤ (view_of self.now).room }
-        ensures { result ≡ free_of (view_of self.now) }
+    /// Retires up to the oldest end of the queue pair whose completion was published as this one.
+    pub(crate) fn retire_one(&mut self, cq: u32, place: usize) -> Made
+        requires there { cq < length (view_of self.old).completions }
+        requires published { place < length (completes_at (view_of self.old).completions cq).published }
+        requires ends { RetiresAt (view_of self.old) cq place }
+        ensures { IsRetire (view_of self.old) cq place result (view_of self.new) }
     {
-        self.queue.room - (self.queue.posted.len() as u64 - self.queue.retired)
+        let qp = self.completions[cq as usize].done(place).qp;
+        let number = self.queues[place_of(qp)].retire();
+        Made::Retire { qp, number }
     }
 
-    /// Takes at most so many completions.
-    pub(crate) fn take_completions(&mut self, most: u32) -> usize
-        requires { (view_of self.old).polled ≤ length (view_of self.old).published }
-        ensures count { result ≡ count_for (view_of self.old) most }
-        ensures view { view_of self.new ≡ record (view_of self.old) { polled = (view_of self.old).polled + result } }
+    /// Acknowledges all that was polled.
+    pub(crate) fn acknowledge(&mut self, cq: u32) -> Made
+        requires { cq < length (view_of self.old).completions }
+        ensures made { result ≡ Made.Ack cq (completes_at (view_of self.old).completions cq).polled }
+        ensures view { view_of self.new ≡ with_completes (view_of self.old) cq (acking (completes_at (view_of self.old).completions cq)) }
     {
-        let left = self.completions.published.len() - self.completions.polled;
-        let count = (most as usize).min(left);
-        self.completions.polled += count;
-        count
-    }
-
-    pub(crate) fn retire_one(&mut self) -> Made
-        requires { (view_of self.old).ended < length (view_of self.old).published }
-        ensures { IsRetire (view_of self.old) result (view_of self.new) }
-    {
-        let number = self.completions.published[self.completions.ended].number;
-        self.completions.ended += 1;
-        self.queue.retired = number;
-        Made::Retire { number }
-    }
-
-    pub(crate) fn acknowledge(&mut self) -> Made
-        ensures made { result ≡ Made.Ack (view_of self.old).polled }
-        ensures view { view_of self.new ≡ record (view_of self.old) { acked = (view_of self.old).polled } }
-    {
-        let index = self.completions.polled as u64;
-        self.completions.acked = index;
-        Made::Ack { index }
+        let index = self.completions[cq as usize].acknowledge();
+        Made::Ack { cq, index }
     }
 }

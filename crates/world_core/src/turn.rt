@@ -8,28 +8,39 @@ pub enum Made {
         call: usize,
         count: usize,
     },
+    /// The thread's call of this place found its queue full.
     Full {
+        call: usize,
         pending: u64,
         head: u64,
         tail: u64,
     },
-    /// A poll for at most `most` took `count` completions, the first of which was published as this one.
+    /// A poll of a completion queue for at most `most` took `count` completions, the first of which was
+    /// published as this one.
     Poll {
+        cq: u32,
         most: u32,
         first: usize,
         count: usize,
     },
+    /// Requests of a queue pair were retired up to this number.
     Retire {
+        qp: u32,
         number: u64,
     },
     Ack {
+        cq: u32,
         index: u64,
     },
+    /// The request of a queue pair with this number, from 1.
     Fetch {
+        qp: u32,
         number: u64,
     },
-    /// The completion of the request with this id.
+    /// The completion of the request of a queue pair with this id.
     Publish {
+        cq: u32,
+        qp: u32,
         id: u64,
     },
 }

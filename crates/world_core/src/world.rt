@@ -1,7 +1,8 @@
 //! The world: the threads of a scenario and the adapter, one turn after another.
-ghost use Rattle.std.specs.Prelude.{◌≡◌, ◌+◌, ◌<◌, ◌≤◌, ◌++◌, ◌∷◌, [], length, replicate, IfOk, IfSome, slice_get};
-ghost use Rattle.scenario_text.specs.Limits.{turn_count, turns_of as turns_of_plan};
-ghost use Rattle.world_core.specs.World.{IsRun, items_of_plan};
+ghost use Rattle.std.specs.Prelude.{◌≡◌, ◌+◌, ◌<◌, ◌≤◌, ◌++◌, ◌∷◌, [], Some, length, replicate, IfOk, IfSome, slice_get};
+ghost use Rattle.scenario_text.specs.Limits.{round_of, rounds_of, turn_count, turns_of as turns_of_plan};
+ghost use Rattle.scenario_text.specs.Running.{items_of_plan};
+ghost use Rattle.world_core.specs.World.{IsRun, rounds_of_plan, turns_of_items};
 
 use crate::copies::{copy_of_plan, copy_of_programs};
 use crate::fresh::{times, turns_of};
@@ -12,7 +13,7 @@ use scenario_text::{Plan, PlanItem, Scenario};
 use std::alloc::{AllocError, Global};
 use std::marker::Model;
 use std::snapshot::Snapshot;
-use verbs_model::{Call, Entry, NoMemory, Sequence};
+use verbs_model::{ADAPTER, Call, Entry, NoMemory, Sequence};
 
 /// The threads of a scenario and the adapter, between two turns.
 #[derive(Drop)]
@@ -59,7 +60,7 @@ impl World {
         let programs = copy_of_programs(alloc, scenario.programs())?;
         let plan = copy_of_plan(alloc, scenario.plan())?;
         let run = Run::fresh(alloc, scenario.declared(), programs.len())?;
-        let turns = Vec::with_capacity(alloc, turns_of(scenario.plan()))?;
+        let turns = Vec::with_capacity(alloc, turns_of(programs.len(), scenario.plan()))?;
         Ok(World {
             scenario: Snapshot::of(scenario),
             programs,
@@ -72,7 +73,7 @@ impl World {
     /// A turn of the adapter, or of a thread of the scenario. It takes no memory; a turn of an actor to whom
     /// nothing is due makes no entry.
     pub fn turn(&mut self, actor: u8)
-        requires left { length self.old.turns < turn_count self.old.parts.plan }
+        requires left { length self.old.turns < turn_count (length self.old.parts.lines.threads) self.old.parts.plan }
         requires actor { actor ≤ length self.old.parts.programs }
         ensures { self.new ≡ record self.old { turns = self.old.turns ++ actor ∷ [] } }
     {
@@ -85,7 +86,28 @@ impl World {
     /// All turns of the scenario's plan. It takes no memory.
     pub fn run_schedule(&mut self)
         requires { self.old.turns ≡ [] }
-        ensures { self.new ≡ record self.old { turns = turns_of_plan self.old.parts.plan } }
+        ensures { self.new ≡ record self.old { turns = turns_of_plan (length self.old.parts.lines.threads) self.old.parts.plan } }
+    {
+        match self.rounds() {
+            Some(rounds) => self.run_rounds(rounds),
+            None => self.run_items(),
+        }
+    }
+
+    /// How many rounds the plan has, if it is one of rounds.
+    fn rounds(&self) -> Option<u64>
+        ensures { result ≡ rounds_of_plan self.now.parts.plan }
+    {
+        match &self.plan {
+            Plan::Rounds(rounds) => Some(*rounds),
+            Plan::Idle | Plan::Schedule(_) => None,
+        }
+    }
+
+    /// The turns of each item of the plan.
+    fn run_items(&mut self)
+        requires { self.old.turns ≡ [] }
+        ensures { self.new ≡ record self.old { turns = turns_of_items (items_of_plan self.old.parts.plan) } }
     {
         for index in 0..self.planned_items() {
             if let Some(item) = self.planned(index) {
@@ -99,7 +121,7 @@ impl World {
         ensures { result ≡ length (items_of_plan self.now.parts.plan) }
     {
         match &self.plan {
-            Plan::Idle => 0,
+            Plan::Idle | Plan::Rounds(_) => 0,
             Plan::Schedule(items) => items.len(),
         }
     }
@@ -110,14 +132,14 @@ impl World {
         ensures actor { IfSome result (λ i. i.actor ≤ length self.now.parts.programs) }
     {
         match &self.plan {
-            Plan::Idle => None,
+            Plan::Idle | Plan::Rounds(_) => None,
             Plan::Schedule(items) => items.as_slice().get(index).copied(),
         }
     }
 
     /// So many turns of one actor.
     fn turn_times(&mut self, actor: u8, count: u64)
-        requires left { length self.old.turns + count ≤ turn_count self.old.parts.plan }
+        requires left { length self.old.turns + count ≤ turn_count (length self.old.parts.lines.threads) self.old.parts.plan }
         requires actor { actor ≤ length self.old.parts.programs }
         ensures { self.new ≡ record self.old { turns = self.old.turns ++ replicate count actor } }
     {
@@ -126,15 +148,45 @@ impl World {
         }
     }
 
+    /// So many rounds.
+    fn run_rounds(&mut self, rounds: u64)
+        requires begins { self.old.turns ≡ [] }
+        requires rounds { rounds_of_plan self.old.parts.plan ≡ Some rounds }
+        ensures { self.new ≡ record self.old { turns = rounds_of (length self.old.parts.lines.threads) rounds } }
+    {
+        for round in 0..rounds {
+            self.run_round();
+        }
+    }
+
+    /// One turn of each thread in order, and then one of the adapter.
+    fn run_round(&mut self)
+        requires { length self.old.turns + length self.old.parts.lines.threads + 1 ≤ turn_count (length self.old.parts.lines.threads) self.old.parts.plan }
+        ensures { self.new ≡ record self.old { turns = self.old.turns ++ round_of (length self.old.parts.lines.threads) } }
+    {
+        for thread in 0..self.thread_count() {
+            self.turn(thread + 1);
+        }
+        self.turn(ADAPTER);
+    }
+
+    /// How many threads there are.
+    fn thread_count(&self) -> u8
+        ensures programs { result ≡ length self.now.parts.programs }
+        ensures threads { result ≡ length self.now.parts.lines.threads }
+        ensures few { result ≤ 16 }
+    {
+        self.programs.len() as u8
+    }
+
     /// The history that the turns made.
     pub fn finish(self, alloc: Global) -> Result<Outcome, NoMemory>
         ensures { IfOk result (λ o. IsRun self.parts.lines self.parts.programs self.turns o.history) }
     {
-        let published = self.run.completions.published.as_slice();
         match history_of(
             alloc,
             self.programs.as_slice(),
-            published,
+            self.run.completions.as_slice(),
             self.turns.as_slice(),
         ) {
             Ok(history) => Ok(Outcome {

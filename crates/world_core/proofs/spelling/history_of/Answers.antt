@@ -15,12 +15,12 @@ idle = record { actor = 0; made = None }
 pub loop-turn-preserved : goal.loop-turn-preserved
 loop-turn-preserved c =
     let programs = c.args.programs.now in
-    let published = c.args.published.now in
+    let completions = c.args.completions.now in
     let before = take c.loop-turn.turn-index c.args.turns.now in
     let turn = slice_index_or c.args.turns.now c.loop-turn.turn-index idle in
-    let entry : c.in_ok-entry.entry ≡ entry_of programs published turn.actor turn.made = c.in_ok-entry.ensures in
+    let entry : c.in_ok-entry.entry ≡ entry_of programs completions turn.actor turn.made = c.in_ok-entry.ensures in
     c.in_ok-push_some.ensures
     ∙ ap (λ (h : List Entry). h ++ option_to_list c.in_ok-entry.entry) c.loop-turn.invariant
-    ∙ ap (λ (e : Option Entry). history_of programs published before ++ option_to_list e) entry
-    ∙ sym (history_push programs published before turn)
-    ∙ ap (history_of programs published) (sym (take_more c.args.turns.now c.loop-turn.turn-index idle (omega arith)))
+    ∙ ap (λ (e : Option Entry). history_of programs completions before ++ option_to_list e) entry
+    ∙ sym (history_push programs completions before turn)
+    ∙ ap (history_of programs completions) (sym (take_more c.args.turns.now c.loop-turn.turn-index idle (omega arith)))

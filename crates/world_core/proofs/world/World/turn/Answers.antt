@@ -1,18 +1,11 @@
 -- The world after one more turn.
 use Rattle.std.proofs.Common.{ℕ, sym, ap, subst, arith, length, List, [], ◌∷◌, ◌++◌}
 use Rattle.std.specs.Vec.{vec_capacity}
-use Rattle.scenario_text.specs.Limits.{turn_count}
 use Rattle.world_core.specs.declared.turn.Turn.{Turn}
 use Rattle.world_core.specs.View.{view_of}
-use Rattle.world_core.specs.World.{WorldView}
 use Rattle.world_core.specs.WorldInside.{IsWorldOf}
-use Rattle.world_core.proofs.Worlds.{setting_if, world_turn}
+use Rattle.world_core.proofs.Worlds.{world_turn}
 use Rattle.world_core.proofs.world.World.turn.Goals as goal
-
-pub turn-made-requires-clause-setting : goal.turn-made-requires-clause-setting
-turn-made-requires-clause-setting c =
-    let plan = ap (λ (v : WorldView). turn_count v.parts.plan) c.self.view_is in
-    setting_if c.self.inside.scenario.value (length c.args.self.now.turns) c.self.invariant.scenario (omega (arith, c.requires.left, plan))
 
 pub invariant_of-self : goal.invariant_of-self
 invariant_of-self c =

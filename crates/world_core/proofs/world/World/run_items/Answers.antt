@@ -1,17 +1,18 @@
 -- One more item of the plan.
 use Rattle.std.proofs.Common.{◌≡◌, ◌<◌, ◌∙◌, sym, ap, arith, length, take}
 use Rattle.std.specs.List.{flat_map}
-use Rattle.world_core.specs.World.{WorldView, items_of_plan}
+use Rattle.scenario_text.specs.Running.{items_of_plan}
+use Rattle.world_core.specs.World.{WorldView}
 use Rattle.world_core.proofs.Worlds.{item_turns, turns_fit, planned_more, planned_all, item_there}
-use Rattle.world_core.proofs.world.World.run_schedule.Goals as goal
-use Rattle.world_core.proofs.world.World.run_schedule.Goals.{in-Some, in_default}
+use Rattle.world_core.proofs.world.World.run_items.Goals as goal
+use Rattle.world_core.proofs.world.World.run_items.Goals.{in-Some, in_default}
 
 pub turn_times-requires-clause-left : goal.turn_times-requires-clause-left
 turn_times-requires-clause-left c =
     let plan = c.loop-index.self.parts.plan in
     let turns : length c.loop-index.self.turns ≡ length (flat_map item_turns (take c.loop-index.index (items_of_plan plan))) =
     ap (λ (v : WorldView). length v.turns) c.loop-index.invariant ∙ ap (λ (v : WorldView). length (flat_map item_turns (take c.loop-index.index (items_of_plan v.parts.plan)))) (sym c.loop-index.invariant) in
-    omega (arith, turns, c.times.ensures, turns_fit plan c.loop-index.index c.in-Some.item (sym c.planned.ensures.item ∙ c.in-Some.is))
+    omega (arith, turns, c.times.ensures, turns_fit (length c.loop-index.self.parts.lines.threads) plan c.loop-index.index c.in-Some.item (sym c.planned.ensures.item ∙ c.in-Some.is))
 
 pub loop-index-preserved : goal.loop-index-preserved
 loop-index-preserved c =
