@@ -1,14 +1,13 @@
 -- The adapter's turns.
-use Rattle.std.proofs.Common.{◌≡◌, ◌≢◌, ℕ, zero, suc, ◌+◌, ◌-◌, ◌<◌, ◌≤◌, ◌==◌, ◌&&◌, nat_lt, Bool, true, false, if◌then◌else◌, List, [], ◌∷◌, ◌++◌, length, map, refl, sym, ◌∙◌, ap, subst, arith, Option, None, Some, slice_get, slice_set}
+use Rattle.std.proofs.Common.{◌≡◌, ℕ, ◌+◌, ◌<◌, ◌≤◌, ◌&&◌, nat_lt, Bool, true, false, if◌then◌else◌, List, [], ◌∷◌, ◌++◌, length, refl, sym, ◌∙◌, ap, subst, arith, Option, None, Some, slice_get, slice_set}
 use Rattle.std.specs.List.{AllByRecursion}
 use Rattle.std.specs.Option.{option_to_list}
 use Rattle.std.proofs.lemmas.List.{length-append}
-use Rattle.std.proofs.lemmas.Bool.{and_parts, and_from, false≢true, ltb-true, ltb-false, lt-ltb}
+use Rattle.std.proofs.lemmas.Bool.{and_parts, false≢true, ltb-true, ltb-false}
 use Rattle.verbs_model.specs.declared.call.Call.{Call}
 use Rattle.verbs_model.specs.declared.completion.Queue.TheVariants.{Send}
 use Rattle.verbs_model.specs.declared.declaration.Lines.{Lines}
 use Rattle.verbs_model.specs.declared.declaration.TheConstants.{FIRST_QP}
-use Rattle.verbs_model.specs.declared.entry.What.{What}
 use Rattle.verbs_model.specs.declared.entry.What.TheVariants.{Fetch, Publish}
 use Rattle.verbs_model.specs.declared.state.Act.{Act}
 use Rattle.verbs_model.specs.declared.state.Act.TheVariants.{Complete}
@@ -20,15 +19,12 @@ use Rattle.verbs_model.specs.Rows as rows
 use Rattle.verbs_model.specs.Rows.{with_queue, with_completions, nop_completion, publish}
 use Rattle.verbs_model.specs.State.{WorkQueue, CompletionQueue, Verbs}
 use Rattle.verbs_model.specs.Step.{after}
-use Rattle.verbs_model.specs.Turned.{IsFetched, IsLowest, IsAtRest}
-use Rattle.verbs_model.proofs.Families.{among}
+use Rattle.verbs_model.specs.Turned.{IsFetched}
 use Rattle.world_core.specs.declared.send_queue.Posted.{Posted}
-use Rattle.world_core.specs.declared.completions.Done.{Done}
 use Rattle.world_core.specs.declared.run.Owed.{Owed}
 use Rattle.world_core.specs.declared.turn.Made.TheVariants.{Fetch as FetchMade, Publish as PublishMade}
-use Rattle.world_core.specs.Decoding.{published_at}
 use Rattle.world_core.specs.Kept.{Sends, Completes, kept_completions, unpolled_of, nop_of, item_of, publishing, taking}
-use Rattle.world_core.specs.Machine.{verbs_of, running_of, act_of}
+use Rattle.world_core.specs.Machine.{verbs_of, act_of}
 use Rattle.world_core.specs.Moves.{is_rts, is_ready, IsFirstReady, IsFetch, owed_for}
 use Rattle.world_core.specs.Sane.{IsHomedAct}
 use Rattle.world_core.specs.Sound.{Sound}

@@ -1,5 +1,5 @@
 -- What the threads owe at first.
-use Rattle.std.proofs.Common.{◌≡◌, ◌≢◌, ℕ, zero, suc, ◌+◌, ◌<◌, ◌≤◌, ◌==◌, ◌⊎◌, inl, inr, Bool, true, false, ◌||◌, if◌then◌else◌, nat_lt, IsTrue, List, [], ◌∷◌, ◌++◌, length, map, replicate, refl, sym, ◌∙◌, ap, subst, arith, slice_index_or}
+use Rattle.std.proofs.Common.{◌≡◌, ◌≢◌, ℕ, zero, suc, ◌+◌, ◌<◌, ◌≤◌, ◌==◌, ◌⊎◌, inl, inr, Bool, true, false, ◌||◌, if◌then◌else◌, nat_lt, List, [], ◌∷◌, ◌++◌, length, map, replicate, refl, sym, ◌∙◌, ap, arith, slice_index_or}
 use Rattle.std.specs.List.{flat_map, list_any, sum_by, All, AllByRecursion}
 use Rattle.std.proofs.lemmas.List.{length-map}
 use Rattle.std.proofs.lemmas.List.Folds.{list_any-append}
@@ -18,7 +18,7 @@ use Rattle.verbs_model.specs.Answered.{Due, Posting, Draining, due_by}
 use Rattle.scenario_text.specs.Grammar.{IsCall, IsProgram, IsPlainNop, IsOfOneThread, posts_on as call_posts_on}
 use Rattle.scenario_text.specs.Limits.{posted_by, posted_on}
 use Rattle.world_core.specs.Decoding.{call_at}
-use Rattle.world_core.specs.Sane.{Owing, OnePosts, AreProper, IsProper, IsNop, items_on, posts_on, retires_on, over_dues, dues_of_thread}
+use Rattle.world_core.specs.Sane.{OnePosts, AreProper, IsProper, IsNop, items_on, posts_on, retires_on, over_dues, dues_of_thread}
 use Rattle.world_core.specs.Sound.{DrainsSome}
 use Rattle.world_core.proofs.Choices.{either, differs}
 use Rattle.world_core.proofs.Dues.{sum_by-cons}

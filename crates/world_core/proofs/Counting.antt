@@ -1,10 +1,10 @@
 -- Sums over queue pairs, and over what the threads owe.
-use Rattle.std.proofs.Common.{◌≡◌, ℕ, zero, suc, ◌+◌, ◌-◌, ◌<◌, ◌≤◌, ◌==◌, Bool, true, false, if◌then◌else◌, List, [], ◌∷◌, ◌++◌, length, refl, sym, ◌∙◌, ap, subst, arith, slice_index_or, slice_set}
+use Rattle.std.proofs.Common.{◌≡◌, ℕ, zero, suc, ◌+◌, ◌<◌, ◌≤◌, ◌==◌, Bool, true, false, if◌then◌else◌, List, [], ◌++◌, refl, ◌∙◌, ap, subst, arith, slice_index_or, slice_set}
 use Rattle.std.specs.List.{sum_by}
 use Rattle.std.proofs.lemmas.List.Sums.{sum_by-append}
 use Rattle.verbs_model.specs.declared.state.QueuePair.{QueuePair}
 use Rattle.verbs_model.specs.Answered.{Due}
-use Rattle.world_core.specs.Sane.{into, over_dues, dues_of_thread, Owes}
+use Rattle.world_core.specs.Sane.{into, over_dues, Owes}
 use Rattle.world_core.proofs.Dues.{over_dues-set, sum_by-cons}
 
 if_mono : (b : Bool) (m n : ℕ) → m ≤ n → (if b then m else 0) ≤ (if b then n else 0)

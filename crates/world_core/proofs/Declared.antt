@@ -1,11 +1,11 @@
 -- What the lines of a scenario that can run declare.
-use Rattle.std.proofs.Common.{◌≡◌, ◌≢◌, ℕ, zero, suc, ◌+◌, ◌-◌, ◌*◌, ◌%◌, ◌^◌, ◌<◌, ◌≤◌, ◌==◌, ◌&&◌, Bool, true, false, if◌then◌else◌, IsTrue, List, [], ◌∷◌, length, map, refl, sym, ◌∙◌, ap, subst, arith, Option, None, Some, slice_get, slice_index_or, IfSome}
+use Rattle.std.proofs.Common.{◌≡◌, ℕ, zero, suc, ◌+◌, ◌-◌, ◌*◌, ◌%◌, ◌^◌, ◌<◌, ◌≤◌, ◌==◌, Bool, true, if◌then◌else◌, List, [], ◌∷◌, length, refl, ◌∙◌, ap, subst, arith, Option, Some, slice_get, slice_index_or, IfSome}
 use Rattle.std.proofs.Math.Nat.{le_trans}
 use Rattle.std.proofs.Math.Pow.{pow_mono}
 use Rattle.std.proofs.lemmas.Option.{get_or_from_slice_get}
-use Rattle.std.specs.List.{All, list_all, EachIndex}
+use Rattle.std.specs.List.{list_all}
 use Rattle.std.specs.Option.{option_map_or}
-use Rattle.std.proofs.lemmas.Bool.{and_parts, leb-true, le-leb, eq-eqb, cond-true}
+use Rattle.std.proofs.lemmas.Bool.{and_parts, leb-true, eq-eqb, cond-true}
 use Rattle.verbs_model.specs.declared.call.Call.{Call}
 use Rattle.verbs_model.specs.declared.declaration.CqLine.{CqLine}
 use Rattle.verbs_model.specs.declared.declaration.QpLine.{QpLine}
@@ -13,9 +13,8 @@ use Rattle.verbs_model.specs.declared.declaration.Lines.{Lines}
 use Rattle.verbs_model.specs.declared.declaration.TheConstants.{FIRST_QP}
 use Rattle.verbs_model.specs.declared.state.QueuePair.{QueuePair}
 use Rattle.verbs_model.specs.Lines.{is_declared, is_among, is_cq_line, is_qp_line}
-use Rattle.verbs_model.specs.Start.{start, start_pair, first_state, no_pair}
+use Rattle.verbs_model.specs.Start.{start_pair, first_state, no_pair}
 use Rattle.verbs_model.proofs.Failing.{is_between-true}
-use Rattle.verbs_model.proofs.Families.{among}
 use Rattle.scenario_text.specs.Grammar.{HasRoom}
 use Rattle.scenario_text.specs.Limits.{posted_on, completing_into}
 use Rattle.world_core.specs.Fresh.{size_at}

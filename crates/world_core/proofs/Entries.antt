@@ -1,5 +1,5 @@
 -- A turn that makes an entry, from what it does to the state that the run stands for.
-use Rattle.std.proofs.Common.{◌≡◌, ◌≢◌, ℕ, zero, suc, ◌+◌, ◌<◌, List, [], ◌∷◌, ◌++◌, length, refl, sym, ◌∙◌, ap, subst, arith, ◌==◌, slice_index_or, slice_set, slice_get, None, Some}
+use Rattle.std.proofs.Common.{◌≡◌, ℕ, zero, suc, ◌<◌, List, [], ◌∷◌, ◌++◌, length, refl, sym, ◌∙◌, ap, subst, arith, ◌==◌, slice_index_or, slice_set, slice_get, None, Some}
 use Rattle.std.proofs.lemmas.Bool.{eqb-true}
 use Rattle.std.proofs.lemmas.Option.{get_or_from_slice_get}
 use Rattle.verbs_model.specs.declared.call.Call.{Call}
@@ -7,16 +7,16 @@ use Rattle.verbs_model.specs.declared.declaration.Lines.{Lines}
 use Rattle.verbs_model.specs.declared.entry.What.{What}
 use Rattle.verbs_model.specs.Family.{put}
 use Rattle.verbs_model.specs.State.{Verbs}
-use Rattle.verbs_model.specs.Step.{MayStep, after}
+use Rattle.verbs_model.specs.Step.{after}
 use Rattle.verbs_model.specs.Answered.{Due, Answers, left_by, MayAnswer, after_answer}
 use Rattle.verbs_model.specs.Turned.{Running, IsAtRest, IsLowest}
 use Rattle.scenario_text.specs.Limits.{posted_on}
 use Rattle.world_core.specs.declared.run.Progress.{Progress}
 use Rattle.world_core.specs.declared.turn.Made.{Made}
-use Rattle.world_core.specs.Decoding.{call_at, what_of}
+use Rattle.world_core.specs.Decoding.{what_of}
 use Rattle.world_core.specs.Machine.{verbs_of, all_dues, dues_of, dues_at, running_of, at_call}
 use Rattle.world_core.specs.Sane.{Sane, Goes, Owes}
-use Rattle.world_core.specs.Sound.{Sound, Stands, DrainsSome}
+use Rattle.world_core.specs.Sound.{Sound, Stands}
 use Rattle.world_core.specs.Steps.{MakesEntry, Steps, IsWithin}
 use Rattle.world_core.specs.View.{View}
 use Rattle.world_core.proofs.Dues.{all_dues-set, all_dues-at, dues_at-set, length-all_dues}

@@ -1,5 +1,5 @@
 -- What the adapter makes is legal, and all stays in bounds.
-use Rattle.std.proofs.Common.{◌≡◌, ◌≢◌, ℕ, zero, suc, ◌+◌, ◌-◌, ◌<◌, ◌≤◌, ◌==◌, ◌⊎◌, inl, inr, Bool, true, false, if◌then◌else◌, List, [], ◌∷◌, ◌++◌, length, map, refl, sym, ◌∙◌, ap, subst, arith, length-append, append_assoc, append-nil, Option, None, Some, slice_get}
+use Rattle.std.proofs.Common.{◌≡◌, ◌≢◌, ℕ, zero, suc, ◌+◌, ◌-◌, ◌<◌, ◌≤◌, ◌==◌, Bool, true, false, if◌then◌else◌, List, [], ◌∷◌, ◌++◌, length, map, refl, sym, ◌∙◌, ap, subst, arith, length-append, append_assoc, append-nil, Option, Some, slice_get}
 use Rattle.std.specs.List.{AllByRecursion}
 use Rattle.std.proofs.lemmas.Bool.{eq-eqb}
 use Rattle.verbs_model.specs.declared.request.Request.{Request}
@@ -7,10 +7,8 @@ use Rattle.verbs_model.specs.declared.request.Item.{Item}
 use Rattle.verbs_model.specs.declared.request.Item.TheVariants.{Request as TheRequest}
 use Rattle.verbs_model.specs.declared.request.Op.TheVariants.{Nop}
 use Rattle.verbs_model.specs.declared.completion.Completion.{Completion}
-use Rattle.verbs_model.specs.declared.completion.Queue.{Queue}
 use Rattle.verbs_model.specs.declared.completion.Queue.TheVariants.{Send}
 use Rattle.verbs_model.specs.declared.declaration.TheConstants.{FIRST_QP}
-use Rattle.verbs_model.specs.declared.entry.What.{What}
 use Rattle.verbs_model.specs.declared.entry.What.TheVariants.{Fetch, Publish}
 use Rattle.verbs_model.specs.declared.state.Act.{Act}
 use Rattle.verbs_model.specs.declared.state.Act.TheVariants.{Complete}
@@ -23,13 +21,13 @@ use Rattle.verbs_model.specs.Rows as rows
 use Rattle.verbs_model.specs.Rows.{nop_completion, completion_owed, publish}
 use Rattle.verbs_model.specs.Rules.{names_living}
 use Rattle.verbs_model.specs.Same.{same_queue}
-use Rattle.verbs_model.specs.State.{WorkQueue, CompletionQueue, Verbs}
-use Rattle.verbs_model.specs.Step.{MayStep, after}
+use Rattle.verbs_model.specs.State.{Verbs}
+use Rattle.verbs_model.specs.Step.{after}
 use Rattle.verbs_model.specs.Answered.{Due}
 use Rattle.verbs_model.proofs.Facts.{MayStep_fetch, MayStep_publish, runs_nop}
 use Rattle.world_core.specs.Kept.{free_of}
 use Rattle.world_core.specs.Sane.{Sane, Goes, QueueSane, CompletionsSane, IsNop, IsHomed, IsHomedAct, numbers_in, waiting, completed_by, items_on, retires_on, over_dues, taken_of, free_on, into, owed_into}
-use Rattle.world_core.proofs.Choices.{put_queue, put_completions, differs, either}
+use Rattle.world_core.proofs.Choices.{put_queue, put_completions, differs}
 use Rattle.world_core.proofs.Counting.{into_mono, into_more, one_if}
 use Rattle.world_core.proofs.Queued.{stays, takes, takes_wanted}
 use Rattle.world_core.proofs.Waiting.{numbers-append, numbers_other, numbers_own}

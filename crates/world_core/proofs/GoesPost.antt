@@ -1,29 +1,27 @@
 -- A post of what a thread owes next, and that the queue is full, are legal, and all stays in bounds.
-use Rattle.std.proofs.Common.{◌≡◌, ◌≢◌, ℕ, zero, suc, ◌+◌, ◌-◌, ◌<◌, ◌≤◌, ◌==◌, ◌⊎◌, inl, inr, Bool, true, false, if◌then◌else◌, ◌||◌, List, [], ◌∷◌, ◌++◌, length, take, refl, sym, ◌∙◌, ap, subst, arith, slice_set, min, length-append}
+use Rattle.std.proofs.Common.{◌≡◌, ◌≢◌, ℕ, zero, suc, ◌+◌, ◌<◌, ◌≤◌, ◌==◌, ◌⊎◌, inl, inr, Bool, true, false, if◌then◌else◌, ◌||◌, List, [], ◌∷◌, ◌++◌, length, take, refl, sym, ◌∙◌, ap, subst, arith, slice_set, min}
 use Rattle.std.specs.List.{list_any, list_all, sum_by, AllByRecursion}
 use Rattle.std.proofs.lemmas.Bool.{le-leb, eqb-false, false≢true}
 use Rattle.std.proofs.lemmas.List.{length-take}
 use Rattle.verbs_model.specs.declared.request.Item.{Item}
 use Rattle.verbs_model.specs.declared.request.Item.TheVariants.{Request as TheRequest, Receive as TheReceive}
-use Rattle.verbs_model.specs.declared.completion.Queue.{Queue}
 use Rattle.verbs_model.specs.declared.completion.Queue.TheVariants.{Send}
 use Rattle.verbs_model.specs.declared.declaration.TheConstants.{FIRST_QP}
 use Rattle.verbs_model.specs.declared.entry.What.TheVariants.{Post, PostFull}
 use Rattle.verbs_model.specs.Rows as rows
 use Rattle.verbs_model.specs.Rows.{item_fits, body_fits}
-use Rattle.verbs_model.specs.Same.{same_queue}
 use Rattle.verbs_model.specs.State.{WorkQueue, Verbs}
 use Rattle.verbs_model.specs.Step.{after}
-use Rattle.verbs_model.specs.Answered.{Due, Posting, Accepting, left_by}
+use Rattle.verbs_model.specs.Answered.{Due, Posting, Accepting}
 use Rattle.verbs_model.proofs.Facts.{MayStep_post, MayStep_full}
 use Rattle.verbs_model.proofs.Failing.{IsHost}
 use Rattle.verbs_model.proofs.Sameness.{same_queue_refl}
 use Rattle.world_core.specs.Kept.{free_of}
-use Rattle.world_core.specs.Sane.{Sane, Owing, Owes, Goes, QueueSane, CompletionsSane, IsNop, IsSend, IsProper, IsNext, AreProper, FitsNow, waiting, items_on, posts_on, retires_on, over_dues, taken_of, free_on, into, owed_into}
+use Rattle.world_core.specs.Sane.{Sane, Owes, Goes, QueueSane, CompletionsSane, IsNop, IsProper, AreProper, waiting, items_on, posts_on, retires_on, over_dues, taken_of, free_on, into, owed_into}
 use Rattle.world_core.proofs.Choices.{put_queue, differs}
-use Rattle.world_core.proofs.Counting.{into_mono, over_after, over_due}
+use Rattle.world_core.proofs.Counting.{into_mono, over_after}
 use Rattle.world_core.proofs.Queued.{stays, posts, retired_low}
-use Rattle.world_core.proofs.Owing.{Replaces, owing_after, proper_rest, proper_at}
+use Rattle.world_core.proofs.Owing.{owing_after, proper_rest, proper_at}
 
 -- a thread is a host
 pub host_of : (n : ℕ) (total : ℕ → ℕ) (v : Verbs) (dues : List (List Due)) (t : ℕ) (due : Due) (rest : List Due) → Sane n total v dues → Owes dues t due rest → IsHost (suc t)

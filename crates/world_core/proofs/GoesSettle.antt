@@ -1,11 +1,9 @@
 -- A poll, a retirement and an acknowledgement that a thread owes next are legal, and all stays in bounds.
-use Rattle.std.proofs.Common.{◌≡◌, ◌≢◌, ℕ, zero, suc, ◌+◌, ◌-◌, ◌<◌, ◌≤◌, ◌==◌, ◌⊎◌, inl, inr, Bool, true, false, if◌then◌else◌, ◌||◌, List, [], ◌∷◌, ◌++◌, length, map, take, drop, refl, sym, ◌∙◌, ap, subst, arith, slice_set, min, length-append, append_assoc}
+use Rattle.std.proofs.Common.{◌≡◌, ◌≢◌, ℕ, suc, ◌+◌, ◌-◌, ◌<◌, ◌≤◌, inl, Bool, true, false, if◌then◌else◌, List, [], ◌∷◌, ◌++◌, length, map, take, drop, refl, sym, ◌∙◌, ap, subst, arith, slice_set, append_assoc}
 use Rattle.std.specs.List.{list_any, list_all, sum_by, AllByRecursion}
-use Rattle.std.proofs.lemmas.Bool.{false≢true}
 use Rattle.std.proofs.lemmas.List.{take-append-drop, length-drop}
 use Rattle.std.proofs.lemmas.List.Sums.{sum_by-cons, sum_by_push}
 use Rattle.verbs_model.specs.declared.completion.Completion.{Completion}
-use Rattle.verbs_model.specs.declared.completion.Queue.{Queue}
 use Rattle.verbs_model.specs.declared.completion.Queue.TheVariants.{Send}
 use Rattle.verbs_model.specs.declared.declaration.TheConstants.{FIRST_QP}
 use Rattle.verbs_model.specs.declared.entry.What.{What}
@@ -16,18 +14,18 @@ use Rattle.verbs_model.specs.Rows as rows
 use Rattle.verbs_model.specs.Rows.{end_all}
 use Rattle.verbs_model.specs.Rules.{names_living}
 use Rattle.verbs_model.specs.Same.{same_queue}
-use Rattle.verbs_model.specs.State.{WorkQueue, CompletionQueue, Verbs}
+use Rattle.verbs_model.specs.State.{WorkQueue, Verbs}
 use Rattle.verbs_model.specs.Step.{after}
 use Rattle.verbs_model.specs.Answered.{Due, Polling, Draining, Retiring, Acking, settling}
 use Rattle.verbs_model.proofs.Facts.{MayStep_poll, MayStep_retire, MayStep_ack}
 use Rattle.verbs_model.proofs.Sameness.{same_queue_refl}
 use Rattle.world_core.specs.Kept.{free_of}
-use Rattle.world_core.specs.Sane.{Sane, Owing, Owes, Goes, QueueSane, CompletionsSane, IsSend, IsProper, IsNext, AreProper, IsHomed, numbers_in, waiting, completed_by, items_on, posts_on, retires_on, over_dues, taken_of, free_on, into, owed_into}
-use Rattle.world_core.proofs.Choices.{put_queue, put_completions, differs, either}
-use Rattle.world_core.proofs.Counting.{into_mono, over_after, over_due}
+use Rattle.world_core.specs.Sane.{Sane, Owes, Goes, QueueSane, CompletionsSane, IsProper, IsHomed, numbers_in, waiting, completed_by, items_on, posts_on, retires_on, over_dues, taken_of, free_on, into, owed_into}
+use Rattle.world_core.proofs.Choices.{put_queue, put_completions, differs}
+use Rattle.world_core.proofs.Counting.{over_after, over_due}
 use Rattle.world_core.proofs.Queued.{stays, polls, retires, retired_up}
 use Rattle.world_core.proofs.Waiting.{completion_in, numbers-append, numbers_away, ended_at, left_behind, homed_take, homed_drop}
-use Rattle.world_core.proofs.Owing.{Replaces, owing_after, proper_rest, proper_at}
+use Rattle.world_core.proofs.Owing.{owing_after, proper_rest, proper_at}
 use Rattle.world_core.proofs.GoesPost.{host_of, completions_stay, rest_posts}
 
 -- What a poll leaves owed

@@ -16,6 +16,7 @@ pub mod Entries
 pub mod Posting
 pub mod Polling
 pub mod Settling
+pub mod Retiring
 pub mod Adapting
 pub mod Declared
 pub mod Calling

@@ -1,5 +1,5 @@
 -- What the threads owe stays proper as one of them goes on.
-use Rattle.std.proofs.Common.{◌≡◌, ◌≢◌, ℕ, zero, suc, ◌+◌, ◌<◌, ◌≤◌, ◌⊎◌, inl, inr, Bool, true, false, ◌||◌, List, [], ◌∷◌, ◌++◌, length, refl, sym, ◌∙◌, ap, subst, arith, slice_index_or, slice_set}
+use Rattle.std.proofs.Common.{◌≡◌, ◌≢◌, ℕ, ◌<◌, ◌≤◌, ◌⊎◌, inl, inr, Bool, true, false, ◌||◌, List, [], ◌∷◌, length, sym, ◌∙◌, ap, subst, arith, slice_set}
 use Rattle.std.specs.List.{list_any, AllByRecursion}
 use Rattle.std.proofs.lemmas.Bool.{false≢true}
 use Rattle.std.proofs.lemmas.List.{get_or-set_same, get_or-set_other}
@@ -10,7 +10,7 @@ use Rattle.verbs_model.specs.declared.request.Item.{Item}
 use Rattle.verbs_model.specs.Same.{same_queue}
 use Rattle.verbs_model.proofs.Sameness.{same_queue_refl}
 use Rattle.verbs_model.specs.Answered.{Due, Posting, Accepting, Polling, Draining, Retiring, Acking}
-use Rattle.world_core.specs.Sane.{Owing, OnePosts, AreProper, IsProper, IsNext, FitsNow, Owes, dues_of_thread, posts_on}
+use Rattle.world_core.specs.Sane.{Owing, OnePosts, AreProper, IsProper, IsNext, Owes, dues_of_thread, posts_on}
 use Rattle.world_core.proofs.Choices.{either}
 
 -- of a thread that owes other entries

@@ -1,5 +1,5 @@
 -- What a poll makes of a run's queues is what it makes of the state.
-use Rattle.std.proofs.Common.{◌≡◌, ◌≢◌, ℕ, zero, suc, ◌+◌, ◌-◌, ◌*◌, ◌<◌, ◌≤◌, ◌==◌, Bool, true, false, inl, inr, if◌then◌else◌, List, [], ◌∷◌, ◌++◌, length, map, take, drop, refl, sym, ◌∙◌, ap, subst, arith, slice_index_or, slice_set, get_or, min, length-append}
+use Rattle.std.proofs.Common.{◌≡◌, ◌≢◌, ℕ, zero, suc, ◌+◌, ◌*◌, ◌<◌, ◌≤◌, ◌==◌, true, false, if◌then◌else◌, List, [], ◌∷◌, ◌++◌, length, map, take, drop, refl, sym, ◌∙◌, ap, subst, arith, slice_set, min, length-append}
 use Rattle.std.specs.List.{AllByRecursion}
 use Rattle.std.proofs.lemmas.List.{length-map, length-take, length-drop, take_min, map-set}
 use Rattle.std.proofs.Math.ListN.{length-set}
@@ -9,13 +9,11 @@ use Rattle.verbs_model.specs.declared.completion.Queue.TheVariants.{Send}
 use Rattle.verbs_model.specs.declared.declaration.TheConstants.{FIRST_QP}
 use Rattle.verbs_model.specs.declared.declaration.Lines.{Lines}
 use Rattle.verbs_model.specs.declared.declaration.QpLine.{QpLine}
-use Rattle.verbs_model.specs.declared.entry.What.{What}
 use Rattle.verbs_model.specs.declared.entry.What.TheVariants.{Poll}
 use Rattle.verbs_model.specs.declared.state.Unpolled.{Unpolled}
 use Rattle.verbs_model.specs.Ends.{ended as ended_all}
 use Rattle.verbs_model.specs.Rows.{end}
 use Rattle.verbs_model.specs.Same.{is_front}
-use Rattle.verbs_model.specs.Start.{no_queue}
 use Rattle.verbs_model.specs.State.{WorkQueue, CompletionQueue, Verbs}
 use Rattle.verbs_model.specs.Step.{after}
 use Rattle.verbs_model.specs.Tables.{Tables, state_of}
@@ -25,14 +23,14 @@ use Rattle.world_core.specs.declared.completions.Done.{Done}
 use Rattle.world_core.specs.Kept.{Sends, Completes, kept_completions, completion_of, unpolled_of, left_of, polling, ending}
 use Rattle.world_core.specs.Machine.{both_of, tables_of, verbs_of}
 use Rattle.world_core.specs.Moves.{next_of, ended, CanEnd}
-use Rattle.world_core.specs.Sane.{Sane, IsHomed, numbers_in, waiting, over_dues, items_on, retires_on, QueueSane}
-use Rattle.world_core.specs.Sound.{Sound, Stands}
-use Rattle.world_core.specs.View.{View, place_of, sends_at, completes_at, with_sends}
+use Rattle.world_core.specs.Sane.{IsHomed, numbers_in, waiting}
+use Rattle.world_core.specs.Sound.{Sound}
+use Rattle.world_core.specs.View.{View, place_of, sends_at, completes_at}
 use Rattle.world_core.proofs.Choices.{differs}
 use Rattle.world_core.proofs.Queued.{ends_fit}
-use Rattle.world_core.proofs.Waiting.{completion_in, homed_take, numbers_own, numbers_other}
+use Rattle.world_core.proofs.Waiting.{completion_in, homed_take, numbers_own}
 use Rattle.world_core.proofs.GoesSettle.{named_each, waits_now}
-use Rattle.world_core.proofs.Tabling.{both_at, both_set, both_length, HasPlace, has_place, sends_is_at, completes_is, completes_low, kept_polling}
+use Rattle.world_core.proofs.Tabling.{both_at, both_set, both_length, has_place, sends_is_at, completes_is, kept_polling}
 use Rattle.world_core.proofs.Standing.{AreThere, sends_put}
 use Rattle.world_core.proofs.Entries.{dues_in, most_on}
 

@@ -1,5 +1,5 @@
 -- The threads' turns: posts.
-use Rattle.std.proofs.Common.{◌≡◌, ℕ, zero, suc, ◌+◌, ◌-◌, ◌<◌, ◌≤◌, ◌==◌, inl, inr, Bool, true, false, if◌then◌else◌, List, [], ◌∷◌, ◌++◌, length, take, drop, map, replicate, refl, sym, ◌∙◌, ap, subst, arith, Some, slice_index_or, slice_set, min, drop-cons}
+use Rattle.std.proofs.Common.{◌≡◌, ℕ, suc, ◌+◌, ◌-◌, ◌<◌, ◌≤◌, ◌==◌, Bool, true, false, if◌then◌else◌, List, [], ◌∷◌, ◌++◌, length, take, drop, map, replicate, refl, sym, ◌∙◌, ap, subst, arith, Some, slice_index_or, slice_set, min, drop-cons}
 use Rattle.std.specs.List.{flat_map, AllByRecursion}
 use Rattle.std.proofs.lemmas.List.{length-map, take-map, take_min}
 use Rattle.std.proofs.Math.Seq.{take-length}
@@ -30,8 +30,8 @@ use Rattle.world_core.specs.Decoding.{call_at, requests_of, requests_at, pair_of
 use Rattle.world_core.specs.Kept.{Sends, Completes, posted_of, item_of, appended, free_of}
 use Rattle.world_core.specs.Machine.{verbs_of, dues_of, now_due, at_call}
 use Rattle.world_core.specs.Moves.{accepting_now}
-use Rattle.world_core.specs.Sane.{Sane, Goes, Owes, QueueSane, IsNop, items_on, retires_on, over_dues, waiting, free_on}
-use Rattle.world_core.specs.Sound.{Sound, Stands, SettlesWithin}
+use Rattle.world_core.specs.Sane.{Goes, Owes, QueueSane, IsNop, items_on, retires_on, over_dues, waiting, free_on}
+use Rattle.world_core.specs.Sound.{Sound, SettlesWithin}
 use Rattle.world_core.specs.Steps.{Steps, IsFreeAt, IsPostAt}
 use Rattle.world_core.specs.View.{View, place_of, sends_at, with_sends, with_progress}
 use Rattle.world_core.proofs.Counting.{over_due}

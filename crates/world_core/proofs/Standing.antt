@@ -1,5 +1,5 @@
 -- The lists stay as long as they are, with the room that they need.
-use Rattle.std.proofs.Common.{◌≡◌, ◌≢◌, ℕ, zero, suc, ◌+◌, ◌-◌, ◌^◌, ◌<◌, ◌≤◌, inl, inr, List, [], ◌∷◌, ◌++◌, length, refl, sym, ◌∙◌, ap, subst, arith, slice_index_or, slice_set, Option}
+use Rattle.std.proofs.Common.{◌≡◌, ◌≢◌, ℕ, ◌+◌, ◌^◌, ◌<◌, ◌≤◌, inl, inr, List, [], ◌∷◌, length, refl, sym, ◌∙◌, subst, arith, slice_index_or, slice_set, Option}
 use Rattle.std.proofs.lemmas.List.{get_or-set_same, get_or-set_other}
 use Rattle.std.proofs.Math.ListN.{length-set}
 use Rattle.verbs_model.specs.declared.call.Call.{Call}
@@ -9,7 +9,6 @@ use Rattle.scenario_text.specs.Limits.{posted_on}
 use Rattle.world_core.specs.declared.completions.Done.{Done}
 use Rattle.world_core.specs.declared.run.Owed.{Owed}
 use Rattle.world_core.specs.declared.run.Progress.{Progress}
-use Rattle.world_core.specs.Decoding.{published_at}
 use Rattle.world_core.specs.Kept.{Sends, Completes, no_sends, ending}
 use Rattle.world_core.specs.View.{View, place_of, sends_at, completes_at, with_sends, with_completes, with_progress}
 use Rattle.world_core.specs.Machine.{at_call}

@@ -1,10 +1,9 @@
 -- The run before its first turn.
-use Rattle.std.proofs.Common.{◌≡◌, ◌≢◌, ℕ, zero, suc, ◌+◌, ◌-◌, ◌^◌, ◌<◌, ◌≤◌, ◌==◌, Bool, true, false, if◌then◌else◌, List, [], ◌∷◌, ◌++◌, length, map, replicate, refl, sym, ◌∙◌, ap, subst, arith, slice_index_or, slice_get, Option, None, Some}
-use Rattle.std.specs.List.{flat_map, All, list_all, AllByRecursion, enumerate_from}
+use Rattle.std.proofs.Common.{◌≡◌, ℕ, zero, suc, ◌+◌, ◌-◌, ◌^◌, ◌<◌, ◌≤◌, Bool, true, false, if◌then◌else◌, List, [], ◌∷◌, ◌++◌, length, map, replicate, refl, sym, ◌∙◌, ap, subst, arith, slice_index_or, slice_get, Option, None, Some}
+use Rattle.std.specs.List.{flat_map, All, list_all}
 use Rattle.std.specs.Option.{option_map_or}
 use Rattle.std.proofs.lemmas.Bool.{and_parts, and_from, le-leb, lt-ltb, cond-true}
 use Rattle.std.proofs.lemmas.List.{length-map, length-replicate}
-use Rattle.std.proofs.lemmas.List.FromFn.{length-enumerate_from}
 use Rattle.std.proofs.Math.Pow.{pow_mono}
 use Rattle.verbs_model.specs.declared.call.Call.{Call}
 use Rattle.verbs_model.specs.declared.completion.Queue.TheVariants.{Send}
@@ -13,23 +12,22 @@ use Rattle.verbs_model.specs.declared.declaration.QpLine.{QpLine}
 use Rattle.verbs_model.specs.declared.declaration.Lines.{Lines}
 use Rattle.verbs_model.specs.declared.declaration.TheConstants.{FIRST_QP}
 use Rattle.verbs_model.specs.declared.state.QueuePair.{QueuePair}
-use Rattle.verbs_model.specs.Beginning.{both_queues, pair_from}
+use Rattle.verbs_model.specs.Beginning.{both_queues}
 use Rattle.verbs_model.specs.Lines.{is_among, is_cq_line, is_qp_line}
-use Rattle.verbs_model.specs.Start.{start, fresh_queue, no_queue, fresh_completions, no_completions, for_line}
+use Rattle.verbs_model.specs.Start.{start, fresh_queue, no_queue, fresh_completions, no_completions}
 use Rattle.verbs_model.specs.State.{WorkQueue, CompletionQueue, Verbs}
-use Rattle.verbs_model.specs.Tables.{Tables, state_of}
+use Rattle.verbs_model.specs.Tables.{state_of}
 use Rattle.verbs_model.specs.Answered.{Due, due_by}
 use Rattle.verbs_model.proofs.Beginnings.{first_tables, state_of-first, length-pairs}
 use Rattle.verbs_model.proofs.Families.{among}
-use Rattle.scenario_text.specs.Grammar.{StartsAtZero, HasRoom}
+use Rattle.scenario_text.specs.Grammar.{StartsAtZero}
 use Rattle.scenario_text.specs.Limits.{posted_on, completing_into}
 use Rattle.scenario_text.specs.Running.{CanRun}
 use Rattle.scenario_text.specs.declared.scenario.ScenarioParts.{ScenarioParts}
-use Rattle.world_core.specs.declared.run.Progress.{Progress}
-use Rattle.world_core.specs.Fresh.{fresh_view, fresh_sends_of, fresh_completes_of, size_at}
+use Rattle.world_core.specs.Fresh.{fresh_view, fresh_sends_of, fresh_completes_of}
 use Rattle.world_core.specs.Kept.{Sends, Completes, no_sends, no_completes, kept_completions}
-use Rattle.world_core.specs.Machine.{both_of, tables_of, verbs_of, all_dues, dues_at, running_of, start_running, at_call}
-use Rattle.world_core.specs.Sane.{Sane, QueueSane, CompletionsSane, IsPair, numbers_in, waiting, items_on, retires_on, over_dues, into, taken_of, free_on}
+use Rattle.world_core.specs.Machine.{both_of, tables_of, verbs_of, all_dues, dues_at, running_of, at_call}
+use Rattle.world_core.specs.Sane.{Sane, QueueSane, CompletionsSane, IsPair, numbers_in, waiting, into, taken_of, free_on}
 use Rattle.world_core.specs.Sound.{Sound, Stands, SettlesWithin}
 use Rattle.world_core.specs.View.{View, sends_at, completes_at}
 use Rattle.world_core.specs.World.{Leads}

@@ -1,26 +1,22 @@
 -- A changed queue of a run is that queue changed in the state that the run stands for.
-use Rattle.std.proofs.Common.{◌≡◌, ◌≢◌, ℕ, zero, suc, ◌+◌, ◌-◌, ◌*◌, ◌<◌, ◌≤◌, Bool, true, false, inl, inr, List, [], ◌∷◌, ◌++◌, length, map, take, drop, refl, sym, ◌∙◌, ap, subst, arith, slice_index_or, slice_set, slice_get, get_or, Option, None, Some, length-append}
-use Rattle.std.specs.Option.{option_to_list}
+use Rattle.std.proofs.Common.{◌≡◌, ℕ, zero, suc, ◌+◌, ◌-◌, ◌*◌, ◌<◌, ◌≤◌, true, List, [], ◌∷◌, ◌++◌, length, map, drop, refl, sym, ◌∙◌, ap, arith, slice_set, get_or, length-append}
 use Rattle.std.proofs.lemmas.Bool.{and_from, le-leb, lt-ltb, cond-true}
-use Rattle.std.proofs.lemmas.List.{map-set, map-append, length-map, length-set, get_or-map, length-take, take-append-drop, take-append-le, drop-append-le, drop-drop, drop-map, take-map, take_min, length-drop}
+use Rattle.std.proofs.lemmas.List.{map-set, map-append, length-map, drop-append-le, drop-drop, drop-map}
 use Rattle.verbs_model.specs.declared.call.Call.{Call}
 use Rattle.verbs_model.specs.declared.completion.Queue.TheVariants.{Send}
 use Rattle.verbs_model.specs.declared.declaration.TheConstants.{FIRST_QP}
 use Rattle.verbs_model.specs.declared.declaration.Lines.{Lines}
 use Rattle.verbs_model.specs.declared.declaration.QpLine.{QpLine}
-use Rattle.verbs_model.specs.declared.state.Act.{Act}
 use Rattle.verbs_model.specs.declared.state.Unpolled.{Unpolled}
-use Rattle.verbs_model.specs.Lines.{is_among}
-use Rattle.verbs_model.specs.Rows as rows
 use Rattle.verbs_model.specs.Rows.{with_queue, with_completions}
 use Rattle.verbs_model.specs.Start.{no_queue, no_completions}
-use Rattle.verbs_model.specs.State.{WorkQueue, CompletionQueue, Verbs}
-use Rattle.verbs_model.specs.Tables.{Tables, queue_at, completions_at, state_of}
+use Rattle.verbs_model.specs.State.{WorkQueue, CompletionQueue}
+use Rattle.verbs_model.specs.Tables.{state_of}
 use Rattle.verbs_model.proofs.Families.{among, queue_at_place, completions_at_place, completions_inside, state_of-set_queue, state_of-set_completions}
 use Rattle.world_core.specs.declared.completions.Done.{Done}
-use Rattle.world_core.specs.Kept.{Sends, Completes, kept_completions, no_completes, publishing, polling, acking, unpolled_of}
-use Rattle.world_core.specs.View.{View, place_of, sends_at, pair_at, completes_at, with_sends, with_completes, with_progress}
-use Rattle.world_core.specs.Machine.{both_of, tables_of, verbs_of, receives_of, act_of}
+use Rattle.world_core.specs.Kept.{Sends, Completes, kept_completions, publishing, polling, unpolled_of}
+use Rattle.world_core.specs.View.{View, place_of, sends_at, pair_at, completes_at, with_sends, with_completes}
+use Rattle.world_core.specs.Machine.{both_of, tables_of, verbs_of, receives_of}
 use Rattle.world_core.specs.Sound.{Stands}
 
 pub both_at : (ls : List QpLine) (ss : List Sends) (k : ℕ) → length ss ≡ length ls → get_or (both_of ls ss) (2 * k) no_queue ≡ (sends_at ss k).queue

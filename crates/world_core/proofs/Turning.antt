@@ -1,5 +1,5 @@
 -- What the turns of threads read and write, as the lemmas on their entries want it.
-use Rattle.std.proofs.Common.{◌≡◌, ◌≢◌, ℕ, zero, suc, ◌+◌, ◌-◌, ◌<◌, ◌≤◌, true, false, List, [], ◌∷◌, ◌++◌, length, take, drop, refl, sym, ◌∙◌, ap, subst, arith, Some, None, slice_get, slice_index_or, slice_set, min, ◌==◌}
+use Rattle.std.proofs.Common.{◌≡◌, ℕ, suc, ◌+◌, ◌-◌, ◌<◌, ◌≤◌, List, [], length, take, sym, ◌∙◌, ap, subst, arith, Some, slice_get, slice_index_or, slice_set, min}
 use Rattle.verbs_model.specs.declared.call.Call.{Call}
 use Rattle.verbs_model.specs.declared.call.Call.TheVariants.{Poll as PollCall}
 use Rattle.verbs_model.specs.declared.declaration.Lines.{Lines}
@@ -8,7 +8,7 @@ use Rattle.world_core.specs.declared.run.Now.{Now}
 use Rattle.world_core.specs.declared.run.Now.TheVariants.{Free, Accept}
 use Rattle.world_core.specs.declared.run.Progress.{Progress}
 use Rattle.world_core.specs.declared.turn.Made.TheVariants.{Poll as PollMade, Post as PostMade, Full}
-use Rattle.world_core.specs.Decoding.{call_at, pair_at, requests_at, published_at}
+use Rattle.world_core.specs.Decoding.{call_at, pair_at, requests_at}
 use Rattle.world_core.specs.Kept.{Sends, Completes, no_sends, no_completes, appended, free_of, left_of, polling}
 use Rattle.world_core.specs.Machine.{at_call}
 use Rattle.world_core.specs.Moves.{accepting_now, settled_now, next_of, ended, CanEnd}
@@ -16,7 +16,7 @@ use Rattle.world_core.specs.Sound.{Sound}
 use Rattle.world_core.specs.Steps.{Steps, IsDraining, IsFreeAt, IsPollAt, IsPostAt}
 use Rattle.world_core.specs.View.{View, place_of, sends_at, completes_at, with_sends, with_progress}
 use Rattle.world_core.proofs.Entries.{AtThread, stands_there, any_default}
-use Rattle.world_core.proofs.Posting.{post_here, post_room, post_retired, post_outstanding, whole_steps, full_steps, accept_here, accept_room, accept_steps}
+use Rattle.world_core.proofs.Posting.{post_here, whole_steps, full_steps, accept_here, accept_room, accept_steps}
 use Rattle.world_core.proofs.Settling.{poll_live, poll_steps, drain_live, drain_steps}
 use Rattle.world_core.proofs.Polling.{next_ends}
 use Rattle.world_core.proofs.Tabling.{completes_low}

@@ -9,14 +9,13 @@ use Rattle.std.proofs.Math.Nat.{suc-mul, mul-le-mul_right}
 use Rattle.std.proofs.lemmas.Option.{get_or_from_slice_get, slice_get_within}
 use Rattle.bus_core.proofs.Lists.{AllByRecursion-push}
 use Rattle.verbs_model.specs.declared.call.Call.{Call}
-use Rattle.verbs_model.specs.declared.declaration.Lines.{Lines}
 use Rattle.verbs_model.specs.declared.entry.Entry.{Entry}
 use Rattle.verbs_model.specs.Turned.{Running}
 use Rattle.scenario_text.specs.declared.scenario.Plan.{Plan}
 use Rattle.scenario_text.specs.declared.scenario.Plan.TheVariants.{Idle, Schedule, Rounds}
 use Rattle.scenario_text.specs.declared.scenario.PlanItem.{PlanItem}
 use Rattle.scenario_text.specs.declared.scenario.ScenarioParts.{ScenarioParts}
-use Rattle.scenario_text.specs.Limits.{times_of, turn_count, turns_of, round_of, rounds_of}
+use Rattle.scenario_text.specs.Limits.{times_of, turn_count, round_of, rounds_of}
 use Rattle.scenario_text.specs.Running.{CanRun, IsActorOf, items_of_plan}
 use Rattle.world_core.specs.declared.turn.Made.{Made}
 use Rattle.world_core.specs.declared.turn.Turn.{Turn}

@@ -1,5 +1,5 @@
 -- How the parts of a run change at each kind of entry.
-use Rattle.std.specs.Prelude.{ℕ, zero, suc, ◌≡◌, ◌+◌, ◌-◌, ◌<◌, ◌==◌, ◌&&◌, Bool, true, false, nat_lt, min, take, drop, length, List, [], ◌∷◌, Option, None, Some, if◌then◌else◌, slice_get, slice_set}
+use Rattle.std.specs.Prelude.{ℕ, zero, suc, ◌≡◌, ◌+◌, ◌<◌, ◌==◌, ◌&&◌, Bool, true, false, nat_lt, min, take, drop, length, List, [], ◌∷◌, Option, None, Some, if◌then◌else◌, slice_get, slice_set}
 use Rattle.verbs_model.specs.declared.declaration.TheConstants.{FIRST_QP}
 use Rattle.verbs_model.specs.declared.state.QpState.{QpState}
 use Rattle.verbs_model.specs.declared.state.QpState.TheVariants.{Rts}
@@ -10,7 +10,7 @@ use Rattle.world_core.specs.declared.run.Now.TheVariants.{Free, Accept, Settle}
 use Rattle.world_core.specs.declared.run.Owed.{Owed}
 use Rattle.world_core.specs.declared.turn.Made.{Made}
 use Rattle.world_core.specs.declared.turn.Made.TheVariants.{Retire}
-use Rattle.world_core.specs.Kept.{Sends, Completes, item_of, taking, ending, retiring, polling, left_of}
+use Rattle.world_core.specs.Kept.{Sends, Completes, item_of, taking, ending, retiring, left_of}
 use Rattle.world_core.specs.View.{View, place_of, sends_at, pair_at, completes_at, with_sends}
 
 abbrev pub is_rts : QpState → Bool

@@ -9,9 +9,9 @@ ghost use Rattle.world_core.specs.Fresh.{fresh_completes_of, fresh_sends_of, fre
 ghost use Rattle.world_core.specs.View.{view_of};
 
 use crate::completions::Completions;
+use crate::progress::free_at;
 use crate::run::Run;
 use crate::send_queue::SendQueue;
-use crate::turns::free_at;
 use scenario_text::{Plan, PlanItem};
 use std::alloc::{AllocError, Global};
 use verbs_model::{Declared, FIRST_QP, Lines, QpLine, QpState, QueuePair};

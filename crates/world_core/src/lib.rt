@@ -9,6 +9,7 @@ mod completions;
 mod copies;
 mod fresh;
 mod polled;
+mod progress;
 mod run;
 mod send_queue;
 mod spelling;

@@ -1,13 +1,12 @@
 //! A turn of the adapter, and a turn of a thread.
 ghost use Rattle.std.specs.Prelude.{◌≡◌, ◌+◌, ◌<◌, ◌≤◌, suc, length, slice_index_or, slice_get, [], Some};
 ghost use Rattle.scenario_text.specs.declared.scenario.ScenarioParts.{ScenarioParts};
-ghost use Rattle.world_core.specs.Machine.{at_call};
-ghost use Rattle.world_core.specs.Moves.{settled_now, accepting_now};
 ghost use Rattle.world_core.specs.Sound.{Sound};
 ghost use Rattle.world_core.specs.Steps.{Steps, IsDraining, IsFreeAt, IsPollAt, IsPostAt};
 ghost use Rattle.world_core.specs.View.{view_of};
 
 use crate::polled::place_of;
+use crate::progress::{accepting, free_at, settling};
 use crate::run::{Now, Progress, Run};
 use crate::thread::{pair_at, requests_at};
 use crate::turn::Made;
@@ -284,47 +283,6 @@ impl Run {
             pending,
             head,
             tail,
-        }
-    }
-}
-
-/// A thread that is to begin the call at a place.
-pub(crate) fn free_at(next: usize) -> Progress
-    ensures { result ≡ at_call next }
-{
-    Progress {
-        now: Now::Free,
-        to_drain: 0,
-        drained: 0,
-        next,
-    }
-}
-
-/// What a poll that took so many, from this one on, leaves a thread with.
-fn settling(cq: u32, first: usize, count: usize) -> Now
-    ensures { result ≡ settled_now cq first count }
-{
-    if count == 0 {
-        Now::Free
-    } else {
-        Now::Settle {
-            cq,
-            next: first,
-            left: count,
-        }
-    }
-}
-
-/// What a post that found the queue full after so many requests leaves a thread with.
-fn accepting(call: usize, count: u64) -> Now
-    ensures { result ≡ accepting_now call count }
-{
-    if count == 0 {
-        Now::Free
-    } else {
-        Now::Accept {
-            call,
-            count: count as usize,
         }
     }
 }

@@ -1,7 +1,5 @@
 -- The line of the number, or none.
-use Rattle.std.proofs.Common.{◌≡◌, ◌<◌, ◌≤◌, ℕ, List, length, slice_index_or, sym, ◌∙◌, subst, arith}
-use Rattle.verbs_model.specs.declared.declaration.CqLine.{CqLine}
-use Rattle.verbs_model.specs.declared.declaration.Lines.{Lines}
+use Rattle.std.proofs.Common.{◌≡◌, ◌<◌, ◌≤◌, length, slice_index_or, arith}
 use Rattle.world_core.proofs.Declared.{size_there, size_none}
 use Rattle.world_core.proofs.fresh.size_at.Goals as goal
 

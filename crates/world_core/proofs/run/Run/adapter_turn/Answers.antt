@@ -1,5 +1,4 @@
 -- The turns of the adapter.
-use Rattle.std.proofs.Common.{◌≡◌, sym, ◌∙◌, ap, subst, arith}
 use Rattle.world_core.specs.View.{view_of}
 use Rattle.world_core.proofs.Adapting.{publish_low, publish_room, publish_steps, fetch_more, fetch_steps, adapter_rests}
 use Rattle.world_core.proofs.run.Run.adapter_turn.Goals as goal

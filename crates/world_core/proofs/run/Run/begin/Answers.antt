@@ -1,5 +1,5 @@
 -- A call that begins, or the end of them.
-use Rattle.std.proofs.Common.{◌≤◌, arith, sym, subst, refl, List, [], length, slice_index_or}
+use Rattle.std.proofs.Common.{◌≤◌, sym, subst, refl, List, [], length, slice_index_or}
 use Rattle.verbs_model.specs.declared.call.Call.{Call}
 use Rattle.verbs_model.specs.declared.call.Call.TheVariants.{Post, Poll, Drain}
 use Rattle.verbs_model.specs.declared.request.Request.{Request}

@@ -1,5 +1,5 @@
 -- A drain that waits, and one that takes a completion.
-use Rattle.std.proofs.Common.{◌≡◌, ◌≢◌, ◌<◌, ◌==◌, true, false, sym, ◌∙◌, ap, subst, length, arith}
+use Rattle.std.proofs.Common.{◌≡◌, ◌≢◌, ◌<◌, sym, ◌∙◌, ap, subst, length, arith}
 use Rattle.std.proofs.lemmas.Bool.{eqb-true, eq-eqb, false≢true}
 use Rattle.world_core.specs.Kept.{Completes}
 use Rattle.world_core.specs.View.{View, view_of, completes_at}

@@ -1,7 +1,7 @@
 -- A poll.
-use Rattle.std.proofs.Common.{◌≡◌, ◌<◌, sym, ◌∙◌, ap, subst, length, arith}
+use Rattle.std.proofs.Common.{◌≡◌, ◌∙◌, ap, arith}
 use Rattle.world_core.specs.Kept.{Completes}
-use Rattle.world_core.specs.View.{View, view_of, completes_at}
+use Rattle.world_core.specs.View.{view_of, completes_at}
 use Rattle.world_core.proofs.Turning.{read_completes, poll_low, poll_ends, poll_takes}
 use Rattle.world_core.proofs.run.Run.poll.Goals as goal
 

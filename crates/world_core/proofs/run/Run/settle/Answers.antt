@@ -1,10 +1,10 @@
 -- The acknowledgement, and a retirement.
-use Rattle.std.proofs.Common.{◌≡◌, ◌<◌, ◌+◌, ◌-◌, sym, ◌∙◌, ap, subst, length, arith, slice_set}
+use Rattle.std.proofs.Common.{◌≡◌, ◌<◌, ◌-◌, sym, ◌∙◌, ap, subst, length, arith}
 use Rattle.world_core.specs.declared.run.Now.TheVariants.{Settle}
 use Rattle.world_core.specs.Kept.{Completes, no_completes}
 use Rattle.world_core.specs.View.{View, view_of, completes_at, with_progress}
-use Rattle.world_core.proofs.Entries.{AtThread, stands_there, low_from_get, any_default}
-use Rattle.world_core.proofs.Settling.{ack_low, ack_steps, settle_there, settle_low, retires_here, retire_steps}
+use Rattle.world_core.proofs.Entries.{stands_there, low_from_get, any_default}
+use Rattle.world_core.proofs.Retiring.{ack_low, ack_steps, settle_there, settle_low, retires_here, retire_steps}
 use Rattle.world_core.proofs.run.Run.settle.Goals as goal
 
 pub acknowledge-made-requires : goal.acknowledge-made-requires

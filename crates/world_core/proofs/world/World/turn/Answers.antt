@@ -1,5 +1,5 @@
 -- The world after one more turn.
-use Rattle.std.proofs.Common.{ℕ, sym, ap, subst, arith, length, List, [], ◌∷◌, ◌++◌}
+use Rattle.std.proofs.Common.{ℕ, sym, subst, List, [], ◌∷◌, ◌++◌}
 use Rattle.std.specs.Vec.{vec_capacity}
 use Rattle.world_core.specs.declared.turn.Turn.{Turn}
 use Rattle.world_core.specs.View.{view_of}
