@@ -1,12 +1,10 @@
 -- A scenario of the grammar can run.
-use Rattle.std.proofs.Common.{◌≡◌, ℕ, zero, suc, ◌≤◌, inl, inr, refl, sym, subst, arith, List, [], ◌∷◌, length, IsTrue}
-use Rattle.std.specs.List.{All}
+use Rattle.std.proofs.Common.{inl, inr, refl, sym, subst, arith}
 use Rattle.verbs_model.specs.declared.declaration.Lines.{Lines}
-use Rattle.verbs_model.specs.Lines.{is_declared}
 use Rattle.scenario_text.specs.declared.scenario.Plan.{Plan}
 use Rattle.scenario_text.specs.declared.scenario.Plan.TheVariants.{Idle, Schedule, Rounds}
 use Rattle.scenario_text.specs.declared.scenario.ScenarioParts.{ScenarioParts}
-use Rattle.scenario_text.specs.Grammar.{IsScenario, IsFirstPath, IsSchedule, nothing}
+use Rattle.scenario_text.specs.Grammar.{IsScenario, IsSchedule, nothing}
 use Rattle.scenario_text.specs.Running.{CanRun, IsPlan}
 
 -- nothing to run
