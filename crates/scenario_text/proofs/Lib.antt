@@ -1,20 +1,32 @@
-pub mod Parts
-pub mod Numbers
+pub mod Splitting
 pub mod NamingLemmas
-pub mod Agreement
-pub mod Refusals
-pub mod LineLemmas
-mod Items
-mod Rooms
-pub mod HeadLemmas
-mod Threads
-mod Plain
-mod PlainLines
-mod Following
-mod Sameness
-mod Whole
-pub mod Runs
-mod Texts
-mod FirstPaths
-pub mod RequestLemmas
-pub mod CallLemmas
+pub mod Changes
+pub mod Dropping
+pub mod Standing
+pub mod Asked
+pub mod Within
+pub mod Growing
+pub mod Declaring
+pub mod Objects
+pub mod Meanings
+pub mod Sides
+pub mod Rooms
+pub mod Filling
+pub mod ObjectLines
+pub mod DeclaringLines
+pub mod ThreadLines
+pub mod Calling
+pub mod CallLines
+pub mod PlanLines
+pub mod Ends
+pub mod OutsideLines
+pub mod Closing
+pub mod InsideLines
+pub mod ByLine
+pub mod AllLines
+pub mod Numbers
+pub mod Events
+pub mod Reading
+pub mod Small
+pub mod Naming
+pub mod Scenarios

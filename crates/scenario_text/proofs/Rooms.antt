@@ -1,43 +1,65 @@
--- The room of the one completion queue.
-use Rattle.std.proofs.Common.{◌≡◌, ◌↔◌, ℕ, zero, suc, ◌<◌, ◌≤◌, ◌^◌, ◌*◌, ◌%◌, ◌==◌, if◌then◌else◌, List, [], ◌∷◌, length, All, EachIndex, IfSome, slice_get, get_or, sym, ap, ◌∙◌, subst, arith}
-use Rattle.std.proofs.Math.Nat.{mod-eq_of_lt}
-use Rattle.std.proofs.Math.Pow.{pow_mono}
+-- What was posted, and the room that is left.
+use Rattle.std.proofs.Common.{◌≡◌, ℕ, zero, suc, ◌+◌, ◌≤◌, ◌==◌, Bool, true, false, cond, List, [], ◌∷◌, ◌++◌, sum_by, Some, slice_get, refl, sym, ap, ap₂, ◌∙◌, arith}
+use Rattle.std.proofs.lemmas.Bool.{eq-eqb, ne_eqb}
+use Rattle.std.proofs.lemmas.List.Sums.{sum_by_push}
+use Rattle.std.proofs.lemmas.Option.{same_Some, none-some}
 use Rattle.verbs_model.specs.declared.call.Call.{Call}
-use Rattle.verbs_model.specs.declared.declaration.CqLine.{CqLine}
 use Rattle.verbs_model.specs.declared.declaration.QpLine.{QpLine}
-use Rattle.verbs_model.specs.declared.declaration.TheConstants.{FIRST_QP}
-use Rattle.scenario_text.specs.Limits.{posted_on, completing_into}
+use Rattle.scenario_text.specs.Limits.{posted_by, posted_on, completing_into}
 
-all_into : (q : QpLine) (programs : List (List Call)) → q.send_cq ≡ 0 → completing_into 0 FIRST_QP (q ∷ []) programs ≡ posted_on FIRST_QP programs
-all_into q programs e =
-    let one : (if q.send_cq == 0 then posted_on FIRST_QP programs else 0) ≡ posted_on FIRST_QP programs = ap (λ s. if s == 0 then posted_on FIRST_QP programs else 0) e in
-    omega (arith, one)
-
--- of one queue pair that completes into the one queue
-pub one_room : (cqs : List CqLine) (qps : List QpLine) (programs : List (List Call)) (d : CqLine) → length cqs ≡ 1 → length qps ≡ 1 → All (λ (l : QpLine). l.send_cq ≡ 0) qps
-    → (posted_on FIRST_QP programs ≤ 2 ^ (get_or cqs 0 d).log) ↔ EachIndex cqs (λ c. IfSome (slice_get cqs c) (λ (l : CqLine). completing_into c FIRST_QP qps programs ≤ 2 ^ l.log))
-one_room [] qps programs d one pair into = absurd (omega (arith, one))
-one_room (c ∷ e ∷ cs) qps programs d one pair into = absurd (omega (arith, one))
-one_room (c ∷ []) [] programs d one pair into = absurd (omega (arith, pair))
-one_room (c ∷ []) (q ∷ r ∷ qs) programs d one pair into = absurd (omega (arith, pair))
-one_room (c ∷ []) (q ∷ []) programs d one pair into =
-    let all : completing_into 0 FIRST_QP (q ∷ []) programs ≡ posted_on FIRST_QP programs = all_into q programs (into 0 q (omega arith)) in
-    (λ fits i below. at fits all i below, λ h. subst (λ n. n ≤ 2 ^ c.log) all (h 0 (omega arith)))
+-- nothing completes where nothing is posted
+pub completing_none : (c q : ℕ) (ls : List QpLine) → completing_into c q ls [] ≡ 0
+completing_none c q [] = refl
+completing_none c q (l ∷ ls) = by (l.send_cq == c) (completing_none c (q + 1) ls)
   where
-    at : posted_on FIRST_QP programs ≤ 2 ^ c.log → completing_into 0 FIRST_QP (q ∷ []) programs ≡ posted_on FIRST_QP programs → (i : ℕ) → i < 1
-        → IfSome (slice_get (c ∷ []) i) (λ (l : CqLine). completing_into i FIRST_QP (q ∷ []) programs ≤ 2 ^ l.log)
-    at fits all zero below = subst (λ n. n ≤ 2 ^ c.log) (sym all) fits
-    at fits all (suc i) below = absurd (omega (arith, below))
+    by : (into : Bool) → completing_into c (q + 1) ls [] ≡ 0 → cond into 0 0 + completing_into c (q + 1) ls [] ≡ 0
+    by true h = omega (arith, h)
+    by false h = omega (arith, h)
 
--- the queue that was seen is small
-pub log_below : (cqs seen : List CqLine) (l : CqLine) → length cqs ≡ 1 → All (λ (c : CqLine). c.log < 32) cqs → seen ≡ cqs → l ≡ get_or seen 0 l → l.log < 32
-log_below cqs seen l one logs same at =
-    let there : 0 < length cqs = omega (arith, one) in
-    subst (λ (c : CqLine). c.log < 32) (sym (at ∙ ap (λ ls. get_or ls 0 l) same)) (logs 0 l there)
+-- as much completes where as much is posted
+pub completing_same : (c q : ℕ) (ls : List QpLine) (before now : List (List Call)) → ((k : ℕ) → q ≤ k → posted_on k now ≡ posted_on k before)
+    → completing_into c q ls now ≡ completing_into c q ls before
+completing_same c q [] before now same = refl
+completing_same c q (l ∷ ls) before now same =
+    ap₂ (λ n m. cond (l.send_cq == c) n 0 + m) (same q (omega arith)) (completing_same c (q + 1) ls before now (λ k le. same k (omega (arith, le))))
 
-pub shifted : (log : ℕ) → log < 32 → (1 * 2 ^ log) % 2 ^ 64 ≡ 2 ^ log
-shifted log low =
-    let under : log ≤ 32 = omega (arith, low) in
-    let small : 2 ^ log ≤ 2 ^ 32 = pow_mono under in
-    let one : 1 * 2 ^ log ≡ 2 ^ log = omega arith in
-    ap (λ n. n % 2 ^ 64) one ∙ mod-eq_of_lt (omega (arith, small))
+one_here : (into : Bool) (n b m r z : ℕ) → n ≡ b + 1 → m ≡ r → z ≡ cond into 1 0 → cond into n 0 + m ≡ cond into b 0 + r + z
+one_here true n b m r z here rest last = omega (arith, here, rest, last)
+one_here false n b m r z here rest last = omega (arith, rest, last)
+
+one_later : (into : Bool) (n b m r z : ℕ) → n ≡ b + 0 → m ≡ r + z → cond into n 0 + m ≡ cond into b 0 + r + z
+one_later true n b m r z here rest = omega (arith, here, rest)
+one_later false n b m r z here rest = omega (arith, rest)
+
+-- one more on one queue pair completes into its queue
+pub completing_more : (c q j : ℕ) (ls : List QpLine) (l : QpLine) (before now : List (List Call)) → slice_get ls j ≡ Some l
+    → ((k : ℕ) → posted_on k now ≡ posted_on k before + cond (q + j == k) 1 0) → completing_into c q ls now ≡ completing_into c q ls before + cond (l.send_cq == c) 1 0
+completing_more c q j [] l before now at_j more = absurd (none-some _ at_j)
+completing_more c q zero (x ∷ ls) l before now at_j more =
+    let here : posted_on q now ≡ posted_on q before + 1 = more q ∙ ap (λ t. posted_on q before + cond t 1 0) (eq-eqb (q + 0) q (omega arith)) in
+    let rest : completing_into c (q + 1) ls now ≡ completing_into c (q + 1) ls before = completing_same c (q + 1) ls before now later in
+    let last : cond (l.send_cq == c) 1 0 ≡ cond (x.send_cq == c) 1 0 = ap (λ (y : QpLine). cond (y.send_cq == c) 1 0) (sym (same_Some x l at_j)) in
+    one_here (x.send_cq == c) _ _ _ _ _ here rest last
+  where
+    later : (k : ℕ) → q + 1 ≤ k → posted_on k now ≡ posted_on k before
+    later k le =
+        let not_here : (q + 0 == k) ≡ false = ne_eqb (q + 0) k (λ e. omega (arith, le, e)) in
+        let stays : posted_on k now ≡ posted_on k before + 0 = more k ∙ ap (λ t. posted_on k before + cond t 1 0) not_here in
+        omega (arith, stays)
+completing_more c q (suc j) (x ∷ ls) l before now at_j more =
+    let not_here : (q + suc j == q) ≡ false = ne_eqb (q + suc j) q (λ e. omega (arith, e)) in
+    let here : posted_on q now ≡ posted_on q before + 0 = more q ∙ ap (λ t. posted_on q before + cond t 1 0) not_here in
+    let place : q + suc j ≡ q + 1 + j = omega arith in
+    let rest : completing_into c (q + 1) ls now ≡ completing_into c (q + 1) ls before + cond (l.send_cq == c) 1 0 =
+    completing_more c (q + 1) j ls l before now at_j (λ k. more k ∙ ap (λ n. posted_on k before + cond (n == k) 1 0) place)
+    in
+    one_later (x.send_cq == c) _ _ _ _ _ here rest
+
+-- the last thread's last call
+module _ (k : ℕ) (front : List (List Call)) (program : List Call) where
+  pub posted_push : (call : Call) → posted_on k (front ++ (program ++ call ∷ []) ∷ []) ≡ posted_on k (front ++ program ∷ []) + posted_by k call
+  posted_push call =
+      let all : posted_on k (front ++ (program ++ call ∷ []) ∷ []) ≡ posted_on k front + sum_by (posted_by k) (program ++ call ∷ []) = sum_by_push (λ (cs : List Call). sum_by (posted_by k) cs) front (program ++ call ∷ []) in
+      let was : posted_on k (front ++ program ∷ []) ≡ posted_on k front + sum_by (posted_by k) program = sum_by_push (λ (cs : List Call). sum_by (posted_by k) cs) front program in
+      let last : sum_by (posted_by k) (program ++ call ∷ []) ≡ sum_by (posted_by k) program + posted_by k call = sum_by_push (posted_by k) program call in
+      omega (arith, all, was, last)

@@ -1,32 +1,48 @@
--- What the readers of calls see.
-use Rattle.std.specs.Prelude.{ℕ, ◌≡◌, ◌≢◌, Bool, List, ◌++◌, length, codes, ⊤}
+-- The calls that are built, and what the threads have to keep together.
+use Rattle.std.specs.Prelude.{ℕ, ◌≡◌, ◌^◌, ◌<◌, ◌≤◌, ◌==◌, ◌⊎◌, Bool, false, IsTrue, List, [], length, All, AllPairs, EachIndex, IfSome, slice_get}
+use Rattle.std.specs.List.{list_any}
+use Rattle.verbs_model.specs.Lines.{is_among}
 use Rattle.verbs_model.specs.declared.call.Call.{Call}
 use Rattle.verbs_model.specs.declared.call.Call.TheVariants.{Post, Poll, Drain}
+use Rattle.verbs_model.specs.declared.request.Body.TheVariants.{Sges}
+use Rattle.verbs_model.specs.declared.request.Op.TheVariants.{Nop}
+use Rattle.verbs_model.specs.declared.request.Request.{Request}
+use Rattle.verbs_model.specs.declared.declaration.CqLine.{CqLine}
 use Rattle.verbs_model.specs.declared.declaration.Lines.{Lines}
-use Rattle.scenario_text.specs.Grammar.{IsCall}
-use Rattle.scenario_text.specs.Requests.{letter, or_dash}
-use Rattle.scenario_text.specs.Spelling.{call_lines}
-use Rattle.scenario_text.specs.Reading.{Line, Begins}
+use Rattle.verbs_model.specs.declared.declaration.TheConstants.{FIRST_QP}
+use Rattle.scenario_text.specs.Limits.{completing_into}
 
--- one completion queue and one queue pair
-abbrev pub HasOnePair : Lines → Type 0
-HasOnePair d = (length d.cqs ≡ 1) × (length d.qps ≡ 1)
+abbrev pub StartsAtZero : CqLine → Type 0
+StartsAtZero l = l.start ≡ 0
 
--- the requests of a post end where a line begins no request
-abbrev pub EndsCall : Call → List Line → Type 0
-EndsCall (Post qp requests) more = ¬ (Begins (codes "+") more)
-EndsCall (Poll cq most) more = ⊤
-EndsCall (Drain cq count) more = ⊤
+abbrev pub IsPlainNop : Request → Type 0
+IsPlainNop r = (r.op ≡ Nop) × (r.body ≡ Sges []) × (r.id < 2 ^ 64)
 
--- the lines of this call were read
-pub record ReadsCall (d : Lines) (old new : List Line) (call : Call) : Type 0 where
-  pub limits : IsCall d call
-  pub ends : EndsCall call new
-  pub text : old ≡ call_lines d call ++ new
+abbrev pub IsWithin : ℕ → ℕ → ℕ → Type 0
+IsWithin least most n = (least ≤ n) × (n ≤ most)
 
--- the lines of this call do not stand first
-abbrev pub ReadsNoCall : Lines → List Line → Call → Type 0
-ReadsNoCall d old call = (more : List Line) → IsCall d call → EndsCall call more → old ≢ call_lines d call ++ more
+abbrev pub IsCall : Lines → Call → Type 0
+IsCall d (Post qp requests) = IsTrue (is_among FIRST_QP (length d.qps) qp) × IsWithin 1 16 (length requests) × All IsPlainNop requests
+IsCall d (Poll cq most) = IsTrue (is_among 0 (length d.cqs) cq) × IsWithin 1 16 most
+IsCall d (Drain cq count) = IsTrue (is_among 0 (length d.cqs) cq) × IsWithin 1 65536 count
 
-abbrev pub flags_text : Bool → Bool → Bool → List ℕ
-flags_text wanted solicited fence = or_dash (letter wanted 99 ++ letter solicited 115 ++ letter fence 102)
+abbrev pub IsProgram : Lines → List Call → Type 0
+IsProgram d calls = (length calls ≤ 65536) × All (IsCall d) calls
+
+abbrev pub posts_on : ℕ → Call → Bool
+posts_on q (Post qp requests) = qp == q
+posts_on q (Poll cq most) = false
+posts_on q (Drain cq count) = false
+
+abbrev pub polls_on : ℕ → Call → Bool
+polls_on c (Post qp requests) = false
+polls_on c (Poll cq most) = cq == c
+polls_on c (Drain cq count) = cq == c
+
+-- of two threads at most one has such a call
+abbrev pub IsOfOneThread : (Call → Bool) → List (List Call) → Type 0
+IsOfOneThread uses programs = AllPairs (λ (one other : List Call). (list_any uses one ≡ false) ⊎ (list_any uses other ≡ false)) programs
+
+-- the requests that complete into each queue are no more than its size
+abbrev pub HasRoom : Lines → List (List Call) → Type 0
+HasRoom d programs = EachIndex d.cqs (λ c. IfSome (slice_get d.cqs c) (λ (l : CqLine). completing_into c FIRST_QP d.qps programs ≤ 2 ^ l.log))

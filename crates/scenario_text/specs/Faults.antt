@@ -1,11 +1,9 @@
--- The words of the rules that a line may break.
-use Rattle.std.specs.Prelude.{ℕ, ◌≡◌, List, codes, ⊤}
+-- The words of the rules that a line may break, and of the limits that a text may pass.
+use Rattle.std.specs.Prelude.{ℕ, List, codes}
 use Rattle.scenario_text.specs.declared.fault.TextRule.{TextRule}
 use Rattle.scenario_text.specs.declared.fault.TextRule.TheVariants.{Byte, Form, Number, Double, Name, Side, Missing, NotBuilt}
-use Rattle.scenario_text.specs.declared.fault.ScenarioFault.{ScenarioFault}
-use Rattle.scenario_text.specs.declared.fault.ScenarioFault.TheVariants.{Malformed, NoMemory}
-use Rattle.scenario_text.specs.declared.fault.Refusal.{Refusal}
-use Rattle.scenario_text.specs.declared.fault.Refusal.TheVariants.{Outside, NoMemory as OutOfMemory}
+use Rattle.scenario_text.specs.declared.fault.LimitName.{LimitName}
+use Rattle.scenario_text.specs.declared.fault.LimitName.TheVariants as limits
 
 abbrev pub rule_text : TextRule → List ℕ
 rule_text Byte = codes "byte"
@@ -17,12 +15,23 @@ rule_text Side = codes "side"
 rule_text Missing = codes "missing"
 rule_text NotBuilt = codes "not built"
 
--- the first path has one answer for a text outside its grammar
-abbrev pub fault_of : Refusal → ScenarioFault
-fault_of Outside = Malformed 0 NotBuilt
-fault_of OutOfMemory = NoMemory
-
--- out of memory, or the first path's one answer
-abbrev pub IsFirstFault : ScenarioFault → Type 0
-IsFirstFault (Malformed line why) = (line ≡ 0) × (why ≡ NotBuilt)
-IsFirstFault NoMemory = ⊤
+abbrev pub limit_text : LimitName → List ℕ
+limit_text limits.Text = codes "text"
+limit_text limits.Threads = codes "threads"
+limit_text limits.Calls = codes "calls"
+limit_text limits.List = codes "list"
+limit_text limits.Objects = codes "objects"
+limit_text limits.Arena = codes "arena"
+limit_text limits.Log = codes "log"
+limit_text limits.Sges = codes "sges"
+limit_text limits.Start = codes "start"
+limit_text limits.Length = codes "length"
+limit_text limits.Immediate = codes "immediate"
+limit_text limits.Poll = codes "poll"
+limit_text limits.Drain = codes "drain"
+limit_text limits.Bytes = codes "bytes"
+limit_text limits.Events = codes "events"
+limit_text limits.Turns = codes "turns"
+limit_text limits.Words = codes "words"
+limit_text limits.Notes = codes "notes"
+limit_text limits.Closing = codes "closing"

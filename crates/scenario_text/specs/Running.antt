@@ -7,7 +7,7 @@ use Rattle.scenario_text.specs.declared.scenario.Plan.{Plan}
 use Rattle.scenario_text.specs.declared.scenario.Plan.TheVariants.{Idle, Schedule, Rounds}
 use Rattle.scenario_text.specs.declared.scenario.PlanItem.{PlanItem}
 use Rattle.scenario_text.specs.declared.scenario.ScenarioParts.{ScenarioParts}
-use Rattle.scenario_text.specs.Grammar.{StartsAtZero, IsProgram, IsOfOneThread, HasRoom, posts_on, polls_on}
+use Rattle.scenario_text.specs.Calls.{StartsAtZero, IsProgram, IsOfOneThread, HasRoom, posts_on, polls_on}
 use Rattle.scenario_text.specs.Limits.{turn_count}
 
 -- a queue pair whose counts begin at 0

@@ -1,8 +1,8 @@
 //! Why a text is no scenario.
 ghost use Rattle.std.specs.Prelude.{◌≡◌};
-ghost use Rattle.scenario_text.specs.Faults.{rule_text};
+ghost use Rattle.scenario_text.specs.Faults.{rule_text, limit_text};
 
-use std::alloc::{AllocError, AllocFailed};
+use std::alloc::AllocError;
 use std::fmt;
 use thiserror::Error;
 
@@ -11,7 +11,7 @@ use thiserror::Error;
 pub enum TextRule {
     /// A byte that no text has.
     Byte,
-    /// The form of the line, or a limit of it.
+    /// The form of the line, or the place where it stands.
     Form,
     /// Digits that are no number below 2^64, or begin with a zero too many.
     Number,
@@ -56,12 +56,98 @@ impl fmt::Display for TextRule {
     }
 }
 
+/// A quantity of a text that has a bound.
+#[derive(Clone, Copy, Debug, PartialEq, Eq)]
+pub enum LimitName {
+    /// Bytes of the text.
+    Text,
+    /// Threads.
+    Threads,
+    /// Calls of one thread.
+    Calls,
+    /// Requests or receives of one post.
+    List,
+    /// Objects of one kind.
+    Objects,
+    /// Bytes of data memory.
+    Arena,
+    /// The base-2 logarithm of a size.
+    Log,
+    /// Scatter/gather entries, or inline bytes.
+    Sges,
+    /// A start value.
+    Start,
+    /// Bytes of one segment or of one request.
+    Length,
+    /// An immediate.
+    Immediate,
+    /// The most completions of a poll.
+    Poll,
+    /// The completions of a drain.
+    Drain,
+    /// Bytes of one access to data memory.
+    Bytes,
+    /// Events that an event queue may have to hold.
+    Events,
+    /// Turns of the plan.
+    Turns,
+    /// Words of the address map.
+    Words,
+    /// Notes of a run.
+    Notes,
+    /// Turns of the closing.
+    Closing,
+}
+
+impl LimitName {
+    /// The quantity in words.
+    pub fn as_str(self) -> &'static str
+        ensures { result.now ≡ limit_text self }
+    {
+        match self {
+            LimitName::Text => "text",
+            LimitName::Threads => "threads",
+            LimitName::Calls => "calls",
+            LimitName::List => "list",
+            LimitName::Objects => "objects",
+            LimitName::Arena => "arena",
+            LimitName::Log => "log",
+            LimitName::Sges => "sges",
+            LimitName::Start => "start",
+            LimitName::Length => "length",
+            LimitName::Immediate => "immediate",
+            LimitName::Poll => "poll",
+            LimitName::Drain => "drain",
+            LimitName::Bytes => "bytes",
+            LimitName::Events => "events",
+            LimitName::Turns => "turns",
+            LimitName::Words => "words",
+            LimitName::Notes => "notes",
+            LimitName::Closing => "closing",
+        }
+    }
+}
+
+impl fmt::Display for LimitName {
+    ghost use Rattle.std.specs.Prelude.{Some};
+    ghost use Rattle.scenario_text.specs.Faults.{limit_text};
+
+    ghost output = { λ name. Some (limit_text name) };
+
+    fn fmt<W: fmt::Write>(&self, f: &mut fmt::Formatter<W>) -> fmt::Result {
+        f.write_str(self.as_str())
+    }
+}
+
 /// Why a text gave no scenario.
 #[derive(Clone, Copy, Debug, PartialEq, Eq, Error)]
 pub enum ScenarioFault {
     /// The text is of no scenario: the first line that breaks a rule, counted from 1, and that rule.
     #[error("line {line}: {why}")]
     Malformed { line: u32, why: TextRule },
+    /// The text is of the grammar, and a quantity of it passes its bound: the first one, with its value.
+    #[error("limit {name} {value}")]
+    Limit { name: LimitName, value: u64 },
     #[error("out of memory")]
     NoMemory,
 }
@@ -74,52 +160,5 @@ impl From<AllocError> for ScenarioFault {
 
     fn from(_error: AllocError) -> Self {
         ScenarioFault::NoMemory
-    }
-}
-
-/// Why the reading stopped. Which line and which rule is not found out yet.
-#[derive(Clone, Copy, Debug, PartialEq, Eq)]
-pub(crate) enum Refusal {
-    /// The text is outside the grammar.
-    Outside,
-    NoMemory,
-}
-
-impl From<AllocError> for Refusal {
-    ghost use Rattle.scenario_text.specs.declared.fault.Refusal.TheVariants.{NoMemory};
-    ghost use Rattle.std.specs.Prelude.{◌≡◌};
-
-    ghost from_gives = { λ error refusal. refusal ≡ NoMemory };
-
-    fn from(_error: AllocError) -> Self {
-        Refusal::NoMemory
-    }
-}
-
-impl<T: Drop> From<AllocFailed<T>> for Refusal {
-    ghost use Rattle.scenario_text.specs.declared.fault.Refusal.TheVariants.{NoMemory};
-    ghost use Rattle.std.specs.Prelude.{◌≡◌};
-
-    ghost from_gives = { λ error refusal. refusal ≡ NoMemory };
-
-    fn from(_error: AllocFailed<T>) -> Self {
-        Refusal::NoMemory
-    }
-}
-
-impl From<Refusal> for ScenarioFault {
-    ghost use Rattle.scenario_text.specs.Faults.{fault_of};
-    ghost use Rattle.std.specs.Prelude.{◌≡◌};
-
-    ghost from_gives = { λ refusal fault. fault ≡ fault_of refusal };
-
-    fn from(refusal: Refusal) -> Self {
-        match refusal {
-            Refusal::Outside => ScenarioFault::Malformed {
-                line: 0,
-                why: TextRule::NotBuilt,
-            },
-            Refusal::NoMemory => ScenarioFault::NoMemory,
-        }
     }
 }

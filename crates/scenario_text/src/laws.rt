@@ -1,9 +1,11 @@
 //! Laws of scenario texts that hold with no code.
-ghost use Rattle.std.specs.Prelude.{ℕ, List, ◌≡◌};
-ghost use Rattle.scenario_text.specs.Grammar.{Spells};
+ghost use Rattle.std.specs.Prelude.{ℕ, List};
+ghost use Rattle.scenario_text.specs.Running.{CanRun};
+ghost use Rattle.scenario_text.specs.Whole.{Says};
 ghost use Rattle.scenario_text.specs.declared.scenario.ScenarioParts.{ScenarioParts};
 
-/// A text spells at most one scenario.
-pub fn one_scenario()
-    ensures { (text : List ℕ) (one other : ScenarioParts) → Spells text one → Spells text other → other ≡ one }
+/// What a text says can run: all objects that it names are declared, all limits are kept, one thread has each
+/// side of a queue, and every completion has room.
+pub fn scenarios_run()
+    ensures { (text : List ℕ) (s : ScenarioParts) → Says text s → CanRun s }
 {}

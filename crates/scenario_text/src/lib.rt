@@ -1,21 +1,22 @@
 //! Scenario texts: what a user writes, and the value that it spells.
 #![tactic(auto)]
 
-mod calls;
+mod after;
+mod bounds;
 mod fault;
-mod fields;
-mod heads;
-mod known;
+mod keyword;
 pub mod laws;
 pub mod lines;
 mod names;
 mod parse;
+mod parts;
+mod rules;
 mod scenario;
-mod schedule;
-mod sides;
+mod slot;
+mod sofar;
 #[cfg(test)]
 mod tests;
 
-pub use fault::{ScenarioFault, TextRule};
+pub use fault::{LimitName, ScenarioFault, TextRule};
 pub use parse::parse_scenario;
 pub use scenario::{Plan, PlanItem, Scenario, ScenarioParts};

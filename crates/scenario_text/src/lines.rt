@@ -1,122 +1,75 @@
-//! Readers of lines, fields, names and numbers.
-ghost use Rattle.std.specs.Prelude.{◌≡◌, ◌↔◌, ◌<◌, ◌^◌, ◌++◌, ◌∷◌, [], ℕ, Some, decimal, position, ◌==◌, MatchOption, List, ◌≢◌, IsTrue};
-ghost use Rattle.std.specs.Option.{option_copied};
-ghost use Rattle.scenario_text.specs.Reading.{parts, fields_of, AreLinesOf, Begins, has_sign_or_zeros};
+//! Readers of lines, fields, names, numbers and hexadecimal digits.
+ghost use Rattle.std.specs.Prelude.{◌≡◌};
+ghost use Rattle.std.specs.List.{list_all};
+ghost use Rattle.verbs_model.specs.Names as names;
+ghost use Rattle.scenario_text.specs.Text as text;
 
-use std::marker::Model;
+pub use crate::parts::{LINE_END, Parts, SPACE, cut, has_parts, part};
 use std::str;
 
-const LINE_END: u8 = b'\n';
-
-const SPACE: u8 = b' ';
-
-/// The fields of a line that are left, from the first on. One space stands between two fields.
-#[derive(Drop)]
-pub struct Fields<'a> {
-    rest: Option<&'a [u8]>,
-}
-
-impl<'a> Model for Fields<'a> {
-    ghost use Rattle.std.specs.Option.{option_copied};
-    ghost use Rattle.scenario_text.specs.Reading.{Line, parts};
-
-    ghost Value = { Line };
-
-    ghost view = { λ f. parts 32 (option_copied f.rest) };
-}
-
-impl<'a> Fields<'a> {
-    /// The fields of this line.
-    pub fn of(line: &'a [u8]) -> Fields<'a>
-        ensures { result ≡ fields_of line.now }
-    {
-        Fields { rest: Some(line) }
-    }
-
-    /// Takes the next field, if one is left.
-    pub fn next_field(&mut self) -> Option<&'a [u8]>
-        ensures { MatchOption result ((self.old ≡ []) × (self.new ≡ [])) (λ field. self.old ≡ field.now ∷ self.new) }
-    {
-        let (field, rest) = cut(self.rest?, SPACE);
-        self.rest = rest;
-        Some(field)
-    }
-}
-
-/// The lines of a text that are left, from the first on. A line end stands after each line.
-#[derive(Drop)]
-pub struct TextLines<'a> {
-    rest: Option<&'a [u8]>,
-}
-
-impl<'a> Model for TextLines<'a> {
-    ghost use Rattle.std.specs.Prelude.{List, map};
-    ghost use Rattle.std.specs.Option.{option_copied};
-    ghost use Rattle.scenario_text.specs.Reading.{Line, parts, fields_of};
-
-    ghost Value = { List Line };
-
-    ghost view = { λ t. map fields_of (parts 10 (option_copied t.rest)) };
-}
-
-impl<'a> TextLines<'a> {
-    /// The lines of this text, unless its last line has no end.
-    pub fn of(text: &'a [u8]) -> Option<TextLines<'a>>
-        ensures { MatchOption result ((before : List ℕ) → text.now ≢ before ++ 10 ∷ []) (AreLinesOf text.now) }
-    {
-        match text {
-            [before @ .., LINE_END] => Some(TextLines { rest: Some(before) }),
-            _ => None,
-        }
-    }
-
-    /// Takes the next line, if one is left.
-    pub fn next_line(&mut self) -> Option<Fields<'a>>
-        ensures { MatchOption result ((self.old ≡ []) × (self.new ≡ [])) (λ fields. self.old ≡ fields ∷ self.new) }
-    {
-        let (line, rest) = cut(self.rest?, LINE_END);
-        self.rest = rest;
-        Some(Fields::of(line))
-    }
-}
-
-impl TextLines<'_> {
-    /// Whether the first field of the next line is this word.
-    pub fn begins(&self, word: &[u8]) -> bool
-        ensures { IsTrue result ↔ Begins word.now self.now }
-    {
-        match self.rest {
-            Some(rest) => {
-                let (line, _) = cut(rest, LINE_END);
-                let (field, _) = cut(line, SPACE);
-                field == word
-            }
-            None => false,
-        }
-    }
-}
-
-/// The bytes before the first separator, and those after it, if there is one.
-pub(crate) fn cut(bytes: &[u8], separator: u8) -> (&[u8], Option<&[u8]>)
-    ensures { parts separator (Some bytes.now) ≡ result.0.now ∷ parts separator (option_copied result.1) }
+/// Whether all bytes are of a text: 0x20 to 0x7e.
+pub fn are_text_bytes(line: &[u8]) -> bool
+    ensures { result ≡ list_all text.is_text_byte line.now }
 {
-    match position_of(bytes, separator) {
-        Some(end) => (&bytes[..end], Some(&bytes[end + 1..])),
-        None => (bytes, None),
+    line.iter().all(|byte| is_text_byte(*byte))
+}
+
+fn is_text_byte(byte: u8) -> bool
+    ensures { result ≡ text.is_text_byte byte }
+{
+    0x20 <= byte && byte <= 0x7e
+}
+
+/// Whether a line says nothing: it is empty or begins with `#`.
+pub fn is_skipped(line: &[u8]) -> bool
+    ensures { result ≡ text.is_skipped line.now }
+{
+    match line.first() {
+        Some(byte) => *byte == b'#',
+        None => true,
     }
 }
 
-fn position_of(bytes: &[u8], wanted: u8) -> Option<usize>
-    ensures { result ≡ position (λ b. b == wanted) bytes.now }
+/// Whether a field is a name: 1 to 16 of `a` to `z`, `0` to `9` and `_`, the first a letter.
+pub fn is_name(field: &[u8]) -> bool
+    ensures { result ≡ names.is_name field.now }
 {
-    bytes.iter().position(|byte| *byte == wanted)
+    match field.first() {
+        Some(first) => first.is_ascii_lowercase() && field.len() <= 16 && has_name_bytes(field),
+        None => false,
+    }
+}
+
+fn has_name_bytes(field: &[u8]) -> bool
+    ensures { result ≡ list_all names.is_name_byte field.now }
+{
+    field.iter().all(|byte| is_name_byte(*byte))
+}
+
+fn is_name_byte(byte: u8) -> bool
+    ensures { result ≡ names.is_name_byte byte }
+{
+    byte.is_ascii_lowercase() || byte.is_ascii_digit() || byte == b'_'
+}
+
+/// Whether there are digits and nothing else.
+pub fn is_digits(field: &[u8]) -> bool
+    ensures { result ≡ text.is_digits field.now }
+{
+    !field.is_empty() && has_digits_only(field)
+}
+
+fn has_digits_only(field: &[u8]) -> bool
+    ensures { result ≡ list_all text.is_digit field.now }
+{
+    field.iter().all(|byte| byte.is_ascii_digit())
 }
 
 /// The number that these digits spell: decimal, below 2^64, without leading zeros.
 pub fn read_number(digits: &[u8]) -> Option<u64>
-    ensures { (n : ℕ) → (result ≡ Some n) ↔ ((n < 2 ^ 64) × (digits.now ≡ decimal n)) }
+    ensures { result ≡ text.read_number digits.now }
 {
-    if has_sign_or_zeros(digits) {
+    if !is_digits(digits) || has_leading_zero(digits) {
         return None;
     }
     match str::from_utf8(digits) {
@@ -125,9 +78,34 @@ pub fn read_number(digits: &[u8]) -> Option<u64>
     }
 }
 
-/// Whether a sign or a zero stands before other digits.
-fn has_sign_or_zeros(digits: &[u8]) -> bool
-    ensures { result ≡ has_sign_or_zeros digits.now }
+/// Whether a zero stands before other digits.
+fn has_leading_zero(digits: &[u8]) -> bool
+    ensures { result ≡ text.has_leading_zero digits.now }
 {
-    digits.starts_with(b"+") || digits.len() > 1 && digits.starts_with(b"0")
+    digits.len() > 1 && digits.starts_with(b"0")
+}
+
+/// Whether these digits spell a number.
+pub fn is_number(digits: &[u8]) -> bool
+    ensures { result ≡ text.is_number digits.now }
+{
+    read_number(digits).is_some()
+}
+
+/// The byte that two hexadecimal digits spell, of `0` to `9` and `a` to `f`.
+pub fn read_hex_pair(high: u8, low: u8) -> Option<u8>
+    ensures { result ≡ text.read_hex_pair high low }
+{
+    Some(hex_digit(high)? * 16 + hex_digit(low)?)
+}
+
+/// The value of a hexadecimal digit.
+pub fn hex_digit(digit: u8) -> Option<u8>
+    ensures { result ≡ text.hex_digit digit }
+{
+    match digit {
+        b'0'..=b'9' => Some(digit - b'0'),
+        b'a'..=b'f' => Some(digit - b'a' + 10),
+        _ => None,
+    }
 }

@@ -1,10 +1,10 @@
 //! What the names of a scenario stand for.
 ghost use Rattle.std.specs.Prelude.{◌≡◌, ◌↔◌, ◌++◌, ◌∷◌, [], ℕ, OnOk, IsErrOf, IsSome};
-ghost use Rattle.scenario_text.specs.Naming.{meaning_of};
+ghost use Rattle.scenario_text.specs.Naming.{meaning_of, number_as, number_named};
 
-use crate::fault::Refusal;
+use crate::slot::Kind;
 use indexmap::IndexMap;
-use std::alloc::Global;
+use std::alloc::{AllocError, Global};
 use std::marker::Model;
 use verbs_model::Object;
 
@@ -14,57 +14,21 @@ pub(crate) enum Meaning {
     /// No scenario may give the name, and none may use it.
     Taken,
     /// Who makes turns: 0 is the adapter, and the threads count from 1.
-    Actor(u8),
+    Actor(u32),
     Object(Object),
 }
 
 impl Meaning {
-    /// The number of the event queue that is meant.
-    pub fn eq(self) -> Option<u32>
-        ensures { (k : ℕ) → (result ≡ Some k) ↔ (self ≡ Meaning.Object (Object.Eq k)) }
+    /// Its number, where it is of this kind.
+    pub fn number_as(self, kind: Kind) -> Option<u32>
+        ensures { result ≡ number_as kind self }
     {
-        match self {
-            Meaning::Object(Object::Eq(number)) => Some(number),
-            _ => None,
-        }
-    }
-
-    /// The number of the protection domain that is meant.
-    pub fn pd(self) -> Option<u32>
-        ensures { (k : ℕ) → (result ≡ Some k) ↔ (self ≡ Meaning.Object (Object.Pd k)) }
-    {
-        match self {
-            Meaning::Object(Object::Pd(number)) => Some(number),
-            _ => None,
-        }
-    }
-
-    /// The number of the completion queue that is meant.
-    pub fn cq(self) -> Option<u32>
-        ensures { (k : ℕ) → (result ≡ Some k) ↔ (self ≡ Meaning.Object (Object.Cq k)) }
-    {
-        match self {
-            Meaning::Object(Object::Cq(number)) => Some(number),
-            _ => None,
-        }
-    }
-
-    /// The number of the queue pair that is meant.
-    pub fn qp(self) -> Option<u32>
-        ensures { (k : ℕ) → (result ≡ Some k) ↔ (self ≡ Meaning.Object (Object.Qp k)) }
-    {
-        match self {
-            Meaning::Object(Object::Qp(number)) => Some(number),
-            _ => None,
-        }
-    }
-
-    /// The number of the actor that is meant.
-    pub fn actor(self) -> Option<u8>
-        ensures { (k : ℕ) → (result ≡ Some k) ↔ (self ≡ Meaning.Actor k) }
-    {
-        match self {
-            Meaning::Actor(number) => Some(number),
+        match (kind, self) {
+            (Kind::Eq, Meaning::Object(Object::Eq(number)))
+            | (Kind::Pd, Meaning::Object(Object::Pd(number)))
+            | (Kind::Cq, Meaning::Object(Object::Cq(number)))
+            | (Kind::Qp, Meaning::Object(Object::Qp(number)))
+            | (Kind::Actor, Meaning::Actor(number)) => Some(number),
             _ => None,
         }
     }
@@ -102,15 +66,18 @@ impl Names {
         self.meanings.get(name).copied()
     }
 
-    /// Gives the name this meaning, unless it has one.
-    pub fn give(&mut self, alloc: Global, name: &[u8], meaning: Meaning) -> Result<(), Refusal>
-        ensures new { OnOk result (meaning_of self.old name.now ≡ None) }
-        ensures given { OnOk result (self.new ≡ self.old ++ record { name = name.now; meaning = meaning } ∷ []) }
-        ensures double { IsErrOf result Refusal.Outside → IsSome (meaning_of self.old name.now) }
+    /// The number of the object of this kind, or of the actor, that has the name.
+    pub fn number(&self, kind: Kind, name: &[u8]) -> Option<u32>
+        ensures { result ≡ number_named self.now kind name.now }
     {
-        if self.find(name).is_some() {
-            return Err(Refusal::Outside);
-        }
+        self.find(name)?.number_as(kind)
+    }
+
+    /// Gives the name this meaning.
+    pub fn give(&mut self, alloc: Global, name: &[u8], meaning: Meaning) -> Result<(), AllocError>
+        requires new { meaning_of self.old name.now ≡ None }
+        ensures given { OnOk result (self.new ≡ self.old ++ record { name = name.now; meaning = meaning } ∷ []) }
+    {
         self.meanings
             .insert(Vec::from_slice(alloc, name)?, meaning)?;
         Ok(())

@@ -1,129 +1,133 @@
 //! From a text to a scenario.
-ghost use Rattle.std.specs.Prelude.{ℕ, ◌≡◌, ◌≤◌, ◌++◌, IfOk, IfErr, IsOk, IsErrOf, length};
-ghost use Rattle.scenario_text.specs.Faults.{IsFirstFault};
-ghost use Rattle.scenario_text.specs.Grammar.{AreApart, IsFirstPath, IsScenario, IsWithin, Spells, all_names};
-ghost use Rattle.scenario_text.specs.Head.{IsHead};
-ghost use Rattle.scenario_text.specs.Read.{AreThreads, EndsThreads, IsRead, ReadsNoThreads, ReadsNone, all_lines, without_threads};
-ghost use Rattle.scenario_text.specs.declared.fault.TextRule.{TextRule as Rule};
-ghost use Rattle.scenario_text.specs.declared.scenario.ScenarioParts.{ScenarioParts as Parts};
-ghost use Rattle.scenario_text.specs.Spelling.{scenario_text, threads_lines};
+ghost use Rattle.std.specs.Prelude.{◌≡◌, ◌≤◌, ◌<◌, IfOk, IfErr, OnOk, length, Ok, Err};
+ghost use Rattle.scenario_text.specs.Whole.{HasFault, Says, end_of, nothing_said, parts_said};
+ghost use Rattle.scenario_text.specs.Running.{CanRun};
+ghost use Rattle.scenario_text.specs.Sofar.{view_of};
 
-use crate::calls::{read_program, read_thread_line};
-use crate::fault::{Refusal, ScenarioFault, TextRule};
-use crate::heads::read_head;
-use crate::known::Known;
-use crate::lines::TextLines;
-use crate::scenario::{Scenario, ScenarioParts};
-use crate::schedule::read_schedule;
-use crate::sides::{are_sides_apart, has_room};
-use std::alloc::Global;
-use verbs_model::{Call, Declared, Sequence};
+use crate::fault::{LimitName, ScenarioFault, TextRule};
+use crate::keyword::Section;
+use crate::names::{Meaning, Names};
+use crate::parts::{LINE_END, cut};
+use crate::scenario::{Plan, Scenario, ScenarioParts};
+use crate::sofar::{Place, Sofar};
+use std::alloc::{AllocError, Global};
+use verbs_model::{Declared, Lines, Sequence};
 
 /// The most bytes of a text.
-const MAX_TEXT: usize = 1 << 22;
+const MAX_TEXT: usize = 4_194_304;
 
-/// The most threads.
-const MAX_THREADS: usize = 2;
-
-/// The scenario that the text spells. The grammar of this stage is the empty text, or one event queue, one
-/// protection domain, one completion queue, one queue pair that is connected with itself, one or two threads
-/// that post requests without operation, poll and drain, and a schedule. Every other text is answered by
-/// line 0 and "not built".
+/// The scenario that the text spells, or the first line that breaks a rule with the first rule that it breaks,
+/// or the first limit that the text passes with the value that passes it.
 pub fn parse_scenario(alloc: Global, text: &[u8]) -> Result<Scenario, ScenarioFault>
-    ensures found { IfOk result (λ s. Spells text.now s) }
-    ensures only { (line : ℕ) (why : Rule) → IsErrOf result (ScenarioFault.Malformed line why) → (s : Parts) → ¬ (Spells text.now s) }
-    ensures fault { IfErr result IsFirstFault }
+    ensures found { IfOk result (Says text.now) }
+    ensures fault { IfErr result (HasFault text.now) }
 {
-    match read_text(alloc, text) {
-        Ok(scenario) => Ok(scenario),
-        Err(refusal) => Err(ScenarioFault::from(refusal)),
-    }
-}
-
-fn read_text(alloc: Global, text: &[u8]) -> Result<Scenario, Refusal>
-    ensures found { IfOk result (λ s. Spells text.now s) }
-    ensures only { IsErrOf result Refusal.Outside → (s : Parts) → ¬ (Spells text.now s) }
-{
-    if text.is_empty() {
-        return Scenario::nothing(alloc).map_err(|_| Refusal::Outside);
-    }
     if text.len() > MAX_TEXT {
-        return Err(Refusal::Outside);
+        return Err(ScenarioFault::Limit {
+            name: LimitName::Text,
+            value: 4_194_305,
+        });
     }
-    match TextLines::of(text) {
-        Some(mut lines) => make_scenario(read_lines(alloc, &mut lines)?),
-        None => Err(Refusal::Outside),
+    let parts = read_parts(alloc, text)?;
+    match Declared::new(parts.lines) {
+        Ok(declared) => Ok(Scenario::new(declared, parts.programs, parts.plan)),
+        Err(_) => Err(ScenarioFault::NoMemory),
     }
 }
 
 /// Reads all lines.
-fn read_lines(alloc: Global, lines: &mut TextLines) -> Result<ScenarioParts, Refusal>
-    ensures read { IfOk result IsRead }
-    ensures apart { IfOk result (λ s. AreApart (all_names s.lines)) }
-    ensures text { IfOk result (λ s. lines.old ≡ all_lines s) }
-    ensures only { IsErrOf result Refusal.Outside → ReadsNone lines.old }
+fn read_parts(alloc: Global, text: &[u8]) -> Result<ScenarioParts, ScenarioFault>
+    requires short { length text.now ≤ 4194304 }
+    ensures found { IfOk result (Says text.now) }
+    ensures fault { IfErr result (HasFault text.now) }
 {
-    let known = read_head(alloc, lines)?;
-    let (known, programs) = read_threads(alloc, known, lines)?;
-    let plan = read_schedule(alloc, &known, lines.line()?)?;
-    if lines.next_line().is_some() {
-        return Err(Refusal::Outside);
-    }
-    Ok(ScenarioParts {
-        lines: known.into_lines(),
-        programs: Sequence::from_vec(programs),
-        plan,
-    })
-}
-
-/// Reads the threads, up to the first line that begins none.
-fn read_threads(
-    alloc: Global,
-    mut known: Known,
-    lines: &mut TextLines,
-) -> Result<(Known, Vec<Sequence<Call>>), Refusal>
-    requires head { IsHead known }
-    ensures threads { IfOk result (λ r. AreThreads r.0 r.1.items) }
-    ensures number { IfOk result (λ r. IsWithin 1 2 (length r.0.threads)) }
-    ensures same { IfOk result (λ r. without_threads r.0 ≡ known) }
-    ensures text { IfOk result (λ r. lines.old ≡ threads_lines r.0 r.0.threads r.1.items ++ lines.new) }
-    ensures ends { IsOk result → EndsThreads lines.new }
-    ensures only { IsErrOf result Refusal.Outside → ReadsNoThreads known lines.old }
-{
-    let mut programs = Vec::new(alloc);
-    while lines.begins(b"thread") {
-        if programs.len() == MAX_THREADS {
-            return Err(Refusal::Outside);
+    let mut sofar = Sofar::new(alloc)?;
+    let mut rest = text;
+    while !rest.is_empty() {
+        let (line, after) = cut(rest, LINE_END);
+        if let Some(why) = sofar.fault(line) {
+            return Err(malformed(sofar.count + 1, why));
         }
-        let name = read_thread_line(alloc, lines.line()?)?;
-        known = known.with_thread(alloc, name)?;
-        programs.push(read_program(alloc, &known, lines)?)?;
+        match after {
+            Some(after) => {
+                sofar.add(alloc, line)?;
+                rest = after;
+            }
+            None => return Err(malformed(sofar.count + 1, TextRule::Missing)),
+        }
     }
-    if programs.is_empty() {
-        return Err(Refusal::Outside);
-    }
-    Ok((known, programs))
+    sofar.finish()
 }
 
-/// The scenario of what was read, if its calls keep together and it has room for its completions.
-fn make_scenario(parts: ScenarioParts) -> Result<Scenario, Refusal>
-    requires read { IsRead parts }
-    requires apart { AreApart (all_names parts.lines) }
-    requires short { length (scenario_text parts) ≤ 4194304 }
-    ensures same { IfOk result (λ s. s ≡ parts) }
-    ensures scenario { IfOk result IsScenario }
-    ensures only { IsErrOf result Refusal.Outside → ¬ (IsFirstPath parts) }
+fn malformed(line: u32, why: TextRule) -> ScenarioFault
+    ensures { result ≡ ScenarioFault.Malformed line why }
 {
-    let ScenarioParts {
-        lines,
-        programs,
-        plan,
-    } = parts;
-    if !are_sides_apart(programs.as_slice()) || !has_room(&lines, programs.as_slice()) {
-        return Err(Refusal::Outside);
+    ScenarioFault::Malformed { line, why }
+}
+
+impl Sofar {
+    /// Before the first line nothing is said but the names that are taken from the start.
+    fn new(alloc: Global) -> Result<Sofar, AllocError>
+        ensures { IfOk result (λ s. view_of s ≡ nothing_said) }
+    {
+        let mut names = Names::new(alloc);
+        names.give(alloc, b"dev", Meaning::Actor(0))?;
+        names.give(alloc, b"ctl", Meaning::Taken)?;
+        names.give(alloc, b"main", Meaning::Taken)?;
+        Ok(Sofar {
+            count: 0,
+            section: Section::Objects,
+            names,
+            eqs: Vec::new(alloc),
+            pds: Vec::new(alloc),
+            cqs: Vec::new(alloc),
+            qps: Vec::new(alloc),
+            order: Vec::new(alloc),
+            connects: Vec::new(alloc),
+            threads: Vec::new(alloc),
+            pairs: Vec::new(alloc),
+            queues: Vec::new(alloc),
+            programs: Vec::new(alloc),
+            place: Place::Outside,
+            calls: Vec::new(alloc),
+            requests: Vec::new(alloc),
+            plan: Plan::Idle,
+            passed: None,
+        })
     }
-    match Declared::new(lines) {
-        Ok(declared) => Ok(Scenario::new(declared, programs, plan)),
-        Err(_) => Err(Refusal::Outside),
+
+    /// What all lines together say.
+    fn finish(mut self) -> Result<ScenarioParts, ScenarioFault>
+        ensures found { IfOk result (λ parts. end_of (view_of self) ≡ Ok parts) }
+        ensures fault { IfErr result (λ fault. end_of (view_of self) ≡ Err fault) }
+    {
+        if self.place != Place::Outside {
+            return Err(malformed(self.count, TextRule::Missing));
+        }
+        match self.passed_in_all() {
+            Some(passed) => Err(ScenarioFault::Limit {
+                name: passed.name,
+                value: passed.value,
+            }),
+            None => Ok(self.into_parts()),
+        }
+    }
+
+    fn into_parts(self) -> ScenarioParts
+        ensures { result ≡ parts_said (view_of self) }
+    {
+        ScenarioParts {
+            lines: Lines {
+                eqs: Sequence::from_vec(self.eqs),
+                pds: Sequence::from_vec(self.pds),
+                cqs: Sequence::from_vec(self.cqs),
+                qps: Sequence::from_vec(self.qps),
+                order: Sequence::from_vec(self.order),
+                connects: Sequence::from_vec(self.connects),
+                threads: Sequence::from_vec(self.threads),
+            },
+            programs: Sequence::from_vec(self.programs),
+            plan: self.plan,
+        }
     }
 }

@@ -1,11 +1,10 @@
 //! What a scenario says.
-ghost use Rattle.std.specs.Prelude.{◌≡◌, IfOk, IsOk};
-ghost use Rattle.scenario_text.specs.Grammar.{IsScenario, nothing};
+ghost use Rattle.std.specs.Prelude.{◌≡◌};
+ghost use Rattle.scenario_text.specs.Whole.{IsScenario};
 ghost use Rattle.scenario_text.specs.Running.{CanRun};
 
-use std::alloc::Global;
 use std::marker::Model;
-use verbs_model::{Call, Declared, Lines, NotDeclared, Sequence};
+use verbs_model::{Call, Declared, Lines, Sequence};
 
 /// An item of a schedule: this actor's turns.
 #[derive(Clone, Copy, Debug, PartialEq, Eq)]
@@ -49,7 +48,7 @@ impl Model for Scenario {
 
     ghost Value = { ScenarioParts };
 
-    ghost use Rattle.scenario_text.specs.Grammar.{IsScenario};
+    ghost use Rattle.scenario_text.specs.Whole.{IsScenario};
 
     ghost view = { λ s. record { lines = s.declared; programs = s.programs; plan = s.plan } };
 
@@ -57,27 +56,6 @@ impl Model for Scenario {
 }
 
 impl Scenario {
-    /// The scenario of the empty text.
-    pub(crate) fn nothing(alloc: Global) -> Result<Scenario, NotDeclared>
-        ensures nothing { IfOk result (λ s. s ≡ nothing) }
-        ensures always { IsOk result }
-    {
-        let lines = Lines {
-            eqs: Sequence::from_vec(Vec::new(alloc)),
-            pds: Sequence::from_vec(Vec::new(alloc)),
-            cqs: Sequence::from_vec(Vec::new(alloc)),
-            qps: Sequence::from_vec(Vec::new(alloc)),
-            order: Sequence::from_vec(Vec::new(alloc)),
-            connects: Sequence::from_vec(Vec::new(alloc)),
-            threads: Sequence::from_vec(Vec::new(alloc)),
-        };
-        Ok(Scenario {
-            declared: Declared::new(lines)?,
-            programs: Sequence::from_vec(Vec::new(alloc)),
-            plan: Plan::Idle,
-        })
-    }
-
     /// The scenario with these parts.
     pub(crate) fn new(
         declared: Declared,
@@ -97,6 +75,7 @@ impl Scenario {
     /// The declared objects.
     pub fn declared(&self) -> &Declared
         ensures lines { result.now ≡ self.now.lines }
+        ensures said { IsScenario self.now }
         ensures scenario { CanRun self.now }
     {
         &self.declared

@@ -1,5 +1,5 @@
 //! Texts and what they spell.
-use crate::{Plan, PlanItem, Scenario, ScenarioFault, TextRule, parse_scenario};
+use crate::{LimitName, Plan, PlanItem, Scenario, ScenarioFault, TextRule, parse_scenario};
 use std::alloc::Global;
 use std::process::Abort;
 use std::test::Fail;
@@ -23,17 +23,24 @@ const FIRST: [&[u8]; 15] = [
     b"schedule b a dev*3 b*4",
 ];
 
-const OUTSIDE: ScenarioFault = ScenarioFault::Malformed {
-    line: 0,
-    why: TextRule::NotBuilt,
-};
-
 /// These lines, each with its end.
 fn text_of(alloc: Global, lines: &[&[u8]]) -> Result<Vec<u8>, Fail> {
     let mut text = Vec::new(alloc);
     for line in lines {
         text.extend_from_slice(line)?;
         text.push(b'\n')?;
+    }
+    Ok(text)
+}
+
+/// The lines of the first scenario from one place up to another.
+fn first_lines(alloc: Global, from: usize, to: usize) -> Result<Vec<u8>, Fail> {
+    let mut text = Vec::new(alloc);
+    for (index, line) in FIRST.iter().enumerate() {
+        if from <= index && index < to {
+            text.extend_from_slice(line)?;
+            text.push(b'\n')?;
+        }
     }
     Ok(text)
 }
@@ -48,10 +55,19 @@ fn changed(alloc: Global, place: usize, line: &[u8]) -> Result<Vec<u8>, Fail> {
     Ok(text)
 }
 
-fn is_outside(alloc: Global, text: &[u8]) -> bool {
+/// Whether the text is refused at this line for this rule.
+fn breaks(alloc: Global, text: &[u8], line: u32, why: TextRule) -> bool {
     match parse_scenario(alloc, text) {
         Ok(_) => false,
-        Err(fault) => fault == OUTSIDE,
+        Err(fault) => fault == ScenarioFault::Malformed { line, why },
+    }
+}
+
+/// Whether the text passes this limit with this value.
+fn passes(alloc: Global, text: &[u8], name: LimitName, value: u64) -> bool {
+    match parse_scenario(alloc, text) {
+        Ok(_) => false,
+        Err(fault) => fault == ScenarioFault::Limit { name, value },
     }
 }
 
@@ -173,114 +189,221 @@ fn empty_text_is_idle(rt: HostRuntime) -> Result<(), Fail> {
     Ok(())
 }
 
-/// Lines that are outside the grammar where the line of this place stands.
-const BAD: [(usize, &[u8]); 44] = [
-    (0, b""),
-    (0, b"eq e"),
-    (0, b"eq e 0"),
-    (0, b"eq e 11"),
-    (0, b"eq e 01"),
-    (0, b"eq e +1"),
-    (0, b"eq e 1 "),
-    (0, b"eq  e 1"),
-    (0, b"eq\te 1"),
-    (0, b"eq E 1"),
-    (0, b"eq 1e 1"),
-    (0, b"eq dev 1"),
-    (0, b"eq abcdefghijklmnopq 1"),
-    (0, b"eq e\0 1"),
-    (0, b"eq e 1\r"),
-    (0, b"eq \xc3\xa9 1"),
-    (1, b"pd e"),
-    (1, b"pd p 1"),
-    (2, b"cq c 3 2 e 0"),
-    (2, b"cq c 2 13 e 0"),
-    (2, b"cq c 2 2 p 0"),
-    (2, b"cq c 2 2 e 1"),
-    (3, b"qp q p c c 9 rq:0 1 0"),
-    (3, b"qp q p c c 2 rq:1 1 0"),
-    (3, b"qp q p c c 2 rq:0 2 0"),
-    (3, b"qp q e c c 2 rq:0 1 0"),
-    (4, b"connect q c"),
-    (5, b"thread q"),
-    (6, b"post c"),
-    (7, b"+ 18446744073709551616 nop -"),
-    (7, b"+ 99999999999999999999 nop -"),
-    (7, b"+ 7 send -"),
-    (7, b"+ 7 nop sc"),
-    (7, b"+ 7 nop"),
-    (10, b"thread a"),
-    (11, b"poll c 0"),
-    (11, b"poll c 17"),
-    (11, b"poll q 1"),
-    (12, b"drain c 65537"),
-    (13, b"end 1"),
-    (14, b"schedule"),
-    (14, b"schedule x"),
-    (14, b"schedule a*"),
-    (14, b"schedule ctl"),
+/// A line, or lines, in the place of one of the first scenario, with the first bad line and the first rule
+/// that it breaks.
+const BAD: [(usize, &[u8], u32, TextRule); 77] = [
+    (0, b"eq e", 1, TextRule::Form),
+    (0, b"eq e 01", 1, TextRule::Number),
+    (0, b"eq e 18446744073709551616", 1, TextRule::Number),
+    (0, b"eq e 1 ", 1, TextRule::Form),
+    (0, b"eq  e 1", 1, TextRule::Form),
+    (0, b"eq\te 1", 1, TextRule::Byte),
+    (0, b"eq E 1", 1, TextRule::Form),
+    (0, b"eq e +1", 1, TextRule::Form),
+    (0, b"eq dev 1", 1, TextRule::Double),
+    (0, b"eq abcdefghijklmnopq 1", 1, TextRule::Form),
+    (0, b"eq e 1\r", 1, TextRule::Byte),
+    (0, b"# \xc3\xa9", 1, TextRule::Byte),
+    (0, b"foo e 1", 1, TextRule::Form),
+    (0, b"mr e 1", 1, TextRule::NotBuilt),
+    (0, b"end", 1, TextRule::Form),
+    (1, b"pd e", 2, TextRule::Double),
+    (1, b"pd p 1", 2, TextRule::Form),
+    (1, b"pd 1", 2, TextRule::Form),
+    (2, b"cq c 2 2 p 0", 3, TextRule::Name),
+    (2, b"cq e 2 2 p 0", 3, TextRule::Double),
+    (2, b"cq c 2 2 e 1", 3, TextRule::NotBuilt),
+    (2, b"cq c 2 2 e 01", 3, TextRule::Number),
+    (2, b"cq c 2 2 e", 3, TextRule::Form),
+    (2, b"cq C 2 2 e 1", 3, TextRule::NotBuilt),
+    (3, b"qp q p c c 2 rq:1 1 1", 4, TextRule::NotBuilt),
+    (3, b"qp q p c c 2 srq:s 1 0", 4, TextRule::NotBuilt),
+    (3, b"qp q p c c 2 sq:0 1 0", 4, TextRule::Form),
+    (3, b"qp q p c c 2 rq:00 1 0", 4, TextRule::Number),
+    (3, b"qp q e c c 2 rq:0 1 0", 4, TextRule::Name),
+    (3, b"qp q p c p 2 rq:0 1 0", 4, TextRule::Name),
+    (3, b"qp c p p c 2 rq:0 1 0", 4, TextRule::Double),
+    (4, b"connect q c", 5, TextRule::Name),
+    (4, b"connect q", 5, TextRule::Form),
+    (4, b"connect q q\nconnect q q", 6, TextRule::Double),
+    (4, b"connect x q", 5, TextRule::Name),
+    (5, b"thread q", 6, TextRule::Double),
+    (5, b"thread", 6, TextRule::Form),
+    (5, b"connect q q", 6, TextRule::Double),
+    (6, b"post c", 7, TextRule::Name),
+    (6, b"post", 7, TextRule::Form),
+    (6, b"+ 1 nop -", 7, TextRule::Form),
+    (6, b"post q\nend", 8, TextRule::Form),
+    (6, b"post x", 7, TextRule::Name),
+    (7, b"+ 18446744073709551616 nop -", 8, TextRule::Number),
+    (7, b"+ 7 send -", 8, TextRule::NotBuilt),
+    (7, b"+ 7 nopp -", 8, TextRule::Form),
+    (7, b"+ 7 nop sc", 8, TextRule::Form),
+    (7, b"+ 7 nop", 8, TextRule::Form),
+    (7, b"+ 7 nop - x", 8, TextRule::Form),
+    (7, b"+ x nop -", 8, TextRule::Form),
+    (8, b"recv q", 9, TextRule::NotBuilt),
+    (9, b"end 1", 10, TextRule::Form),
+    (9, b"schedule a", 10, TextRule::Form),
+    (10, b"thread a", 11, TextRule::Double),
+    (11, b"poll q 1", 12, TextRule::Name),
+    (11, b"poll c", 12, TextRule::Form),
+    (11, b"poll c 01", 12, TextRule::Number),
+    (11, b"post q", 12, TextRule::Side),
+    (9, b"poll c 1\nend", 13, TextRule::Side),
+    (12, b"drain c x", 13, TextRule::Form),
+    (12, b"drain x 01", 13, TextRule::Number),
+    (14, b"schedule", 15, TextRule::Form),
+    (14, b"schedule x", 15, TextRule::Name),
+    (14, b"schedule a*", 15, TextRule::Form),
+    (14, b"schedule a*1*1", 15, TextRule::Form),
+    (14, b"schedule ctl", 15, TextRule::Name),
+    (14, b"schedule a*01", 15, TextRule::Number),
+    (14, b"rounds", 15, TextRule::Form),
+    (14, b"rounds 01", 15, TextRule::Number),
+    (14, b"rounds 1\nrounds 1", 16, TextRule::Form),
+    (14, b"rounds 1\nthread c", 16, TextRule::Form),
+    (14, b"close", 15, TextRule::NotBuilt),
+    (
+        8,
+        b"+ 8 nop c\n+ 9 nop c\n+ 10 nop c\n+ 11 nop c",
+        12,
+        TextRule::NotBuilt,
+    ),
+    (2, b"cq c 0 0 e 0", 9, TextRule::NotBuilt),
+    (0, b"eq e 11\nfoo", 2, TextRule::Form),
+    (0, b"foo\neq e 11", 1, TextRule::Form),
+    (12, b"drain c 65537\npoll c x", 14, TextRule::Form),
 ];
 
 #[test]
-fn each_bad_line_is_outside(rt: HostRuntime) -> Result<(), Fail> {
-    for (place, line) in &BAD {
+fn first_bad_line_and_its_first_rule(rt: HostRuntime) -> Result<(), Fail> {
+    for (place, line, number, why) in &BAD {
         let text = changed(rt.alloc(), *place, line)?;
-        assert!(&rt; is_outside(rt.alloc(), text.as_slice()));
+        assert!(&rt; breaks(rt.alloc(), text.as_slice(), *number, *why));
+    }
+    Ok(())
+}
+
+/// The same with a quantity that passes its bound.
+const PASSED: [(usize, &[u8], LimitName, u64); 24] = [
+    (0, b"eq e 0", LimitName::Log, 0),
+    (0, b"eq e 11", LimitName::Log, 11),
+    (0, b"eq e 99999999999", LimitName::Log, 99999999999),
+    (2, b"cq c 3 2 e 0", LimitName::Log, 3),
+    (2, b"cq c 2 13 e 0", LimitName::Log, 13),
+    (2, b"cq c 13 13 e 0", LimitName::Log, 13),
+    (
+        2,
+        b"cq c 18446744073709551615 2 e 0",
+        LimitName::Log,
+        18446744073709551615,
+    ),
+    (3, b"qp q p c c 9 rq:0 1 0", LimitName::Log, 9),
+    (3, b"qp q p c c 2 rq:9 1 0", LimitName::Log, 9),
+    (3, b"qp q p c c 9 rq:10 9 0", LimitName::Log, 9),
+    (3, b"qp q p c c 2 rq:0 0 0", LimitName::Sges, 0),
+    (3, b"qp q p c c 2 rq:0 9 0", LimitName::Sges, 9),
+    (11, b"poll c 0", LimitName::Poll, 0),
+    (11, b"poll c 17", LimitName::Poll, 17),
+    (12, b"drain c 0", LimitName::Drain, 0),
+    (12, b"drain c 65537", LimitName::Drain, 65537),
+    (12, b"drain c 4294967297", LimitName::Drain, 4294967297),
+    (2, b"cq c 2 2 e 0\ncq d 2 2 e 0", LimitName::Events, 4),
+    (14, b"schedule dev*1048577", LimitName::Turns, 1048577),
+    (14, b"schedule dev*1048576 a", LimitName::Turns, 1048577),
+    (
+        14,
+        b"schedule dev*18446744073709551615 a",
+        LimitName::Turns,
+        18446744073709551615,
+    ),
+    (14, b"rounds 349526", LimitName::Turns, 1048578),
+    (
+        14,
+        b"rounds 18446744073709551615",
+        LimitName::Turns,
+        18446744073709551615,
+    ),
+    (0, b"eq e 11\neq f 12", LimitName::Log, 11),
+];
+
+#[test]
+fn first_limit_and_its_value(rt: HostRuntime) -> Result<(), Fail> {
+    for (place, line, name, value) in &PASSED {
+        let text = changed(rt.alloc(), *place, line)?;
+        assert!(&rt; passes(rt.alloc(), text.as_slice(), *name, *value));
     }
     Ok(())
 }
 
 #[test]
-fn bounds_are_of_the_grammar(rt: HostRuntime) -> Result<(), Fail> {
-    let good: [(usize, &[u8]); 10] = [
+fn bounds_are_within(rt: HostRuntime) -> Result<(), Fail> {
+    let good: [(usize, &[u8]); 12] = [
         (0, b"eq e 10"),
         (2, b"cq c 12 12 e 0"),
-        (3, b"qp q p c c 0 rq:0 1 0"),
+        (3, b"qp q p c c 0 rq:8 8 0"),
         (7, b"+ 18446744073709551615 nop csf"),
         (11, b"poll c 16"),
         (12, b"drain c 65536"),
         (14, b"schedule dev"),
         (14, b"schedule a*0"),
-        (14, b"schedule dev*1048576"),
         (14, b"schedule dev*1048575 a*0 b"),
+        (14, b"rounds 349525"),
+        (0, b"# a comment\n\neq e 1"),
+        (4, b"eq f 1\npd f2\nconnect q q"),
     ];
     for (place, line) in &good {
         let text = changed(rt.alloc(), *place, line)?;
         parse_scenario(rt.alloc(), text.as_slice())?;
     }
-    let many = changed(rt.alloc(), 14, b"schedule dev*1048576 a")?;
-    assert!(&rt; is_outside(rt.alloc(), many.as_slice()));
-    let wrapping = changed(rt.alloc(), 14, b"schedule dev*18446744073709551615 a")?;
-    assert!(&rt; is_outside(rt.alloc(), wrapping.as_slice()));
     Ok(())
 }
 
 #[test]
-fn last_line_needs_its_end(rt: HostRuntime) -> Result<(), Fail> {
-    let mut text = text_of(rt.alloc(), &FIRST)?;
-    text.pop();
-    assert!(&rt; is_outside(rt.alloc(), text.as_slice()));
+fn text_may_end_too_early(rt: HostRuntime) -> Result<(), Fail> {
+    let mut unended = text_of(rt.alloc(), &FIRST)?;
+    unended.pop();
+    assert!(&rt; breaks(rt.alloc(), unended.as_slice(), 15, TextRule::Missing));
+    let inside = first_lines(rt.alloc(), 0, 7)?;
+    assert!(&rt; breaks(rt.alloc(), inside.as_slice(), 7, TextRule::Missing));
+    assert!(&rt; breaks(rt.alloc(), b"eq e 1\npd e", 2, TextRule::Double));
+    assert!(&rt; breaks(rt.alloc(), b"eq e 1\n#", 2, TextRule::Missing));
     Ok(())
 }
 
 #[test]
-fn threads_keep_their_sides(rt: HostRuntime) -> Result<(), Fail> {
-    let posts_too = changed(rt.alloc(), 11, b"post q\n+ 9 nop -")?;
-    assert!(&rt; is_outside(rt.alloc(), posts_too.as_slice()));
-    let polls_too = changed(rt.alloc(), 9, b"poll c 1\nend")?;
-    assert!(&rt; is_outside(rt.alloc(), polls_too.as_slice()));
+fn name_is_unknown_before_its_line(rt: HostRuntime) -> Result<(), Fail> {
+    let headless = first_lines(rt.alloc(), 1, FIRST.len())?;
+    assert!(&rt; breaks(rt.alloc(), headless.as_slice(), 2, TextRule::Name));
+    assert!(&rt; breaks(rt.alloc(), b"arena 8\n", 1, TextRule::NotBuilt));
     Ok(())
 }
 
 #[test]
-fn completion_queue_has_room(rt: HostRuntime) -> Result<(), Fail> {
-    let four = changed(rt.alloc(), 8, b"+ 8 nop c\n+ 9 nop c\n+ 10 nop c")?;
-    parse_scenario(rt.alloc(), four.as_slice())?;
-    let five = changed(
+fn seventeenth_thread_and_request_pass(rt: HostRuntime) -> Result<(), Fail> {
+    let mut text = text_of(
         rt.alloc(),
-        8,
-        b"+ 8 nop c\n+ 9 nop c\n+ 10 nop c\n+ 11 nop c",
+        &[
+            b"eq e 1",
+            b"pd p",
+            b"cq c 5 5 e 0",
+            b"qp q p c c 8 rq:0 1 0",
+            b"thread a",
+            b"post q",
+        ],
     )?;
-    assert!(&rt; is_outside(rt.alloc(), five.as_slice()));
+    for number in 0..17 {
+        text.extend_from_slice(b"+ 1 nop -\n")?;
+    }
+    text.extend_from_slice(b"end\n")?;
+    assert!(&rt; passes(rt.alloc(), text.as_slice(), LimitName::List, 17));
+    let mut threads = Vec::new(rt.alloc());
+    for letter in b'a'..=b'q' {
+        threads.extend_from_slice(b"thread ")?;
+        threads.push(letter)?;
+        threads.extend_from_slice(b"\nend\n")?;
+    }
+    assert!(&rt; passes(rt.alloc(), threads.as_slice(), LimitName::Threads, 17));
     Ok(())
 }

@@ -15,7 +15,7 @@ use Rattle.verbs_model.specs.declared.request.Request.{Request}
 use Rattle.verbs_model.specs.declared.request.Item.TheVariants.{Request as TheRequest}
 use Rattle.verbs_model.specs.Lines.{is_among}
 use Rattle.verbs_model.specs.Answered.{Due, Posting, Draining, due_by}
-use Rattle.scenario_text.specs.Grammar.{IsCall, IsProgram, IsPlainNop, IsOfOneThread, posts_on as call_posts_on}
+use Rattle.scenario_text.specs.Calls.{IsCall, IsProgram, IsPlainNop, IsOfOneThread, posts_on as call_posts_on}
 use Rattle.scenario_text.specs.Limits.{posted_by, posted_on}
 use Rattle.world_core.specs.Decoding.{call_at}
 use Rattle.world_core.specs.Sane.{OnePosts, AreProper, IsProper, IsNop, items_on, posts_on, retires_on, over_dues, dues_of_thread}

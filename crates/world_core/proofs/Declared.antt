@@ -15,7 +15,7 @@ use Rattle.verbs_model.specs.declared.state.QueuePair.{QueuePair}
 use Rattle.verbs_model.specs.Lines.{is_declared, is_among, is_cq_line, is_qp_line}
 use Rattle.verbs_model.specs.Start.{start_pair, first_state, no_pair}
 use Rattle.verbs_model.proofs.Failing.{is_between-true}
-use Rattle.scenario_text.specs.Grammar.{HasRoom}
+use Rattle.scenario_text.specs.Calls.{HasRoom}
 use Rattle.scenario_text.specs.Limits.{posted_on, completing_into}
 use Rattle.world_core.specs.Fresh.{size_at}
 use Rattle.world_core.specs.Sane.{into}

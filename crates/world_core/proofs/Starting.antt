@@ -20,7 +20,7 @@ use Rattle.verbs_model.specs.Tables.{state_of}
 use Rattle.verbs_model.specs.Answered.{Due, due_by}
 use Rattle.verbs_model.proofs.Beginnings.{first_tables, state_of-first, length-pairs}
 use Rattle.verbs_model.proofs.Families.{among}
-use Rattle.scenario_text.specs.Grammar.{StartsAtZero}
+use Rattle.scenario_text.specs.Calls.{StartsAtZero}
 use Rattle.scenario_text.specs.Limits.{posted_on, completing_into}
 use Rattle.scenario_text.specs.Running.{CanRun}
 use Rattle.scenario_text.specs.declared.scenario.ScenarioParts.{ScenarioParts}

@@ -1,8 +1,7 @@
--- A scenario of the grammar can run.
 use Rattle.std.proofs.Common.{subst}
-use Rattle.scenario_text.specs.Running.{CanRun}
-use Rattle.scenario_text.proofs.Runs.{scenario_runs}
+use Rattle.scenario_text.specs.Whole.{IsScenario}
+use Rattle.scenario_text.proofs.Scenarios.{can_run}
 use Rattle.scenario_text.proofs.scenario.Scenario.plan.Goals as goal
 
 pub returns-clause-scenario : goal.returns-clause-scenario
-returns-clause-scenario c = subst CanRun c.self.view_is (scenario_runs _ c.self.invariant)
+returns-clause-scenario c = can_run c.args.self.now (subst IsScenario c.self.view_is c.self.invariant)

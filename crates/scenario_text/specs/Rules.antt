@@ -1,0 +1,161 @@
+-- Which rule a line breaks first, after the lines before it.
+use Rattle.std.specs.Prelude.{ℕ, ◌-◌, ◌==◌, List, [], ◌∷◌, drop, length, codes, Option, None, Some, Bool, true, false, not, ◌||◌, ◌&&◌, nat_lt, nat_eq, slice_get, is_some, if◌then◌else◌}
+use Rattle.std.specs.List.{list_all, starts_with}
+use Rattle.std.specs.Option.{is_none, unwrap_or, option_map_or}
+use Rattle.verbs_model.specs.declared.declaration.QpLine.{QpLine}
+use Rattle.verbs_model.specs.declared.declaration.TheConstants.{FIRST_QP}
+use Rattle.scenario_text.specs.Text.{Field, Line, split, part_at, is_text_byte, is_skipped, number_at}
+use Rattle.scenario_text.specs.Naming.{meaning_of, number_named}
+use Rattle.scenario_text.specs.Keywords.{keyword_of, is_later_word, is_later_operation, slots_of, more_of, section_of, is_of_thread, is_from}
+use Rattle.scenario_text.specs.Slots.{actor_part, is_formed, has_number}
+use Rattle.scenario_text.specs.Sofar.{Said}
+use Rattle.scenario_text.specs.declared.fault.TextRule.{TextRule}
+use Rattle.scenario_text.specs.declared.fault.TextRule.TheVariants as rules
+use Rattle.scenario_text.specs.declared.keyword.Keyword.{Keyword}
+use Rattle.scenario_text.specs.declared.keyword.Keyword.TheVariants as keywords
+use Rattle.scenario_text.specs.declared.keyword.Section.{Section}
+use Rattle.scenario_text.specs.declared.slot.Kind.{Kind}
+use Rattle.scenario_text.specs.declared.slot.Kind.TheVariants as kinds
+use Rattle.scenario_text.specs.declared.slot.Slot.{Slot}
+use Rattle.scenario_text.specs.declared.slot.Slot.TheVariants.{NewName, Name, Pair, Poster, Poller, Turns}
+use Rattle.scenario_text.specs.declared.sofar.PairUse.{PairUse}
+use Rattle.scenario_text.specs.declared.sofar.Place.{Place}
+use Rattle.scenario_text.specs.declared.sofar.Place.TheVariants.{Outside, InThread, InPost}
+use Rattle.scenario_text.specs.declared.sofar.QueueUse.{QueueUse}
+
+-- the number of the object of this kind, or of the actor, with this name; 0 where there is none
+abbrev pub named : Said → Kind → Field → ℕ
+named s kind name = unwrap_or (number_named s.names kind name) 0
+
+abbrev pub qp_named : Said → Field → ℕ
+qp_named s name = named s kinds.Qp name
+
+abbrev pub cq_named : Said → Field → ℕ
+cq_named s name = named s kinds.Cq name
+
+-- how a queue pair is used; one that is not declared is not used
+abbrev pub pair_use : Said → ℕ → PairUse
+pair_use s qp = unwrap_or (slice_get s.pairs (qp - FIRST_QP)) (record { connected = false; poster = None })
+
+-- how a completion queue is used; one that is not declared has no room
+abbrev pub queue_use : Said → ℕ → QueueUse
+queue_use s cq = unwrap_or (slice_get s.queues cq) (record { poller = None; room = 0 })
+
+-- the completion queue of a queue pair's send queue
+abbrev pub send_cq_of : Said → ℕ → ℕ
+send_cq_of s qp = option_map_or (λ (l : QpLine). l.send_cq) (slice_get s.lines.qps (qp - FIRST_QP)) 0
+
+-- how many more requests may be posted on a queue pair
+abbrev pub room_for : Said → ℕ → ℕ
+room_for s qp = (queue_use s (send_cq_of s qp)).room
+
+-- a line of so many fields ends with a number above 0
+abbrev pub starts_later : Line → ℕ → Bool
+starts_later line fields = (length line == fields) && nat_lt 0 (number_at line (fields - 1))
+
+-- what is built: a request without operation, where its completion has room
+abbrev pub is_built_in : Said → Place → Field → Bool
+is_built_in s (InPost qp) operation = not (is_later_operation operation) && nat_lt 0 (room_for s qp)
+is_built_in s _ operation = true
+
+abbrev pub is_built_item : Said → Field → Bool
+is_built_item s operation = is_built_in s s.place operation
+
+-- what is built: counts from 0, and receive queues of a queue pair's own
+abbrev pub is_built_line : Said → Option Keyword → Line → Bool
+is_built_line s (Some keywords.Cq) line = not (starts_later line 6)
+is_built_line s (Some keywords.Qp) line = not (starts_with nat_eq (part_at line 6) (codes "srq:")) && not (starts_later line 9)
+is_built_line s (Some keywords.Item) line = is_built_item s (part_at line 2)
+is_built_line s (Some _) line = true
+is_built_line s None line = not (is_later_word (part_at line 0))
+
+abbrev pub is_built : Said → Line → Bool
+is_built s line = is_built_line s (keyword_of (part_at line 0)) line
+
+-- a line outside threads is of no section that is over
+abbrev pub may_begin : Section → Option Section → Bool
+may_begin earliest None = false
+may_begin earliest (Some section) = is_from earliest section
+
+abbrev pub is_item : Keyword → Bool
+is_item keywords.Item = true
+is_item _ = false
+
+-- a post has one request at least
+abbrev pub may_stand_in : Said → Place → Keyword → Bool
+may_stand_in s Outside keyword = may_begin s.section (section_of keyword)
+may_stand_in s InThread keyword = is_of_thread keyword
+may_stand_in s (InPost qp) keyword = is_item keyword || (is_of_thread keyword && nat_lt 0 (length s.requests))
+
+abbrev pub may_stand : Said → Keyword → Bool
+may_stand s keyword = may_stand_in s s.place keyword
+
+-- a name that was given before, and a queue pair that was connected before, are double
+abbrev pub is_new : Said → Slot → Field → Bool
+is_new s NewName field = is_none (meaning_of s.names field)
+is_new s Pair field = not (pair_use s (qp_named s field)).connected
+is_new s _ field = true
+
+-- an earlier line gives the name to what is meant
+abbrev pub is_known : Said → Slot → Field → Bool
+is_known s (Name kind) field = is_some (number_named s.names kind field)
+is_known s Pair field = is_some (number_named s.names kinds.Qp field)
+is_known s Poster field = is_some (number_named s.names kinds.Qp field)
+is_known s Poller field = is_some (number_named s.names kinds.Cq field)
+is_known s Turns field = is_some (number_named s.names kinds.Actor (actor_part field))
+is_known s _ field = true
+
+-- it is the thread whose lines are read, or nobody
+abbrev pub is_this : Said → Option ℕ → Bool
+is_this s None = true
+is_this s (Some thread) = thread == length s.lines.threads
+
+-- a side of a queue is used by one thread
+abbrev pub is_own : Said → Slot → Field → Bool
+is_own s Poster field = is_this s (pair_use s (qp_named s field)).poster
+is_own s Poller field = is_this s (queue_use s (cq_named s field)).poller
+is_own s _ field = true
+
+-- a field keeps a rule in its place
+abbrev pub keeps : Said → TextRule → Slot → Field → Bool
+keeps s rules.Form slot field = is_formed slot field
+keeps s rules.Number slot field = has_number slot field
+keeps s rules.Double slot field = is_new s slot field
+keeps s rules.Name slot field = is_known s slot field
+keeps s rules.Side slot field = is_own s slot field
+keeps s _ slot field = true
+
+-- there is a field for each place, and each keeps the rule
+abbrev pub all_more : (Slot → Field → Bool) → Option Slot → Line → Bool
+all_more ok None [] = true
+all_more ok None (f ∷ fs) = false
+all_more ok (Some slot) fs = list_all (ok slot) fs
+
+abbrev pub all_keep : (Slot → Field → Bool) → List Slot → Option Slot → Line → Bool
+all_keep ok [] more fields = all_more ok more fields
+all_keep ok (slot ∷ slots) more [] = false
+all_keep ok (slot ∷ slots) more (f ∷ fs) = ok slot f && all_keep ok slots more fs
+
+abbrev pub fits : Said → TextRule → Keyword → Line → Bool
+fits s rule keyword line = all_keep (keeps s rule) (slots_of keyword) (more_of keyword) (drop 1 line)
+
+abbrev pub first_broken : Said → Keyword → Line → Option TextRule
+first_broken s keyword line =
+    if not (may_stand s keyword && fits s rules.Form keyword line) then Some rules.Form
+    else if not (fits s rules.Number keyword line) then Some rules.Number
+    else if not (fits s rules.Double keyword line) then Some rules.Double
+    else if not (fits s rules.Name keyword line) then Some rules.Name
+    else if not (fits s rules.Side keyword line) then Some rules.Side
+    else None
+
+abbrev pub broken_by : Said → Option Keyword → Line → Option TextRule
+broken_by s None line = Some rules.Form
+broken_by s (Some keyword) line = first_broken s keyword line
+
+-- the first rule that the line breaks
+abbrev pub fault_of : Said → List ℕ → Option TextRule
+fault_of s bytes =
+    if not (list_all is_text_byte bytes) then Some rules.Byte
+    else if is_skipped bytes then None
+    else if not (is_built s (split 32 bytes)) then Some rules.NotBuilt
+    else broken_by s (keyword_of (part_at (split 32 bytes) 0)) (split 32 bytes)
