@@ -16,6 +16,7 @@ into_closed_pipe() {
     "$mlx5" run </dev/null >&"$pipe"
 }
 
+layout_into_full_device() { "$mlx5" layout raddr >/dev/full; }
 from_folder() { "$mlx5" run <"$PWD"; }
 from_elsewhere() { (cd / && "$mlx5" run </dev/null); }
 of_text() { printf '%s' "$1" | "$mlx5" run; }
@@ -26,6 +27,10 @@ of_text() { printf '%s' "$1" | "$mlx5" run; }
 judge 'the empty text' "$(said "$mlx5" run </dev/null)" '0 '
 judge 'another folder' "$(said from_elsewhere)" '0 '
 judge 'no words' "$(said "$mlx5")" '2 mlx5: usage'
+judge 'a layout' "$("$mlx5" layout raddr <&-)" $'addr 0 64\nrkey 64 32\nreserved 96 32'
+judge 'a layout into a full device' "$(said layout_into_full_device)" '6 mlx5: write fault'
+judge 'a layout that is not there' "$(said "$mlx5" layout foo)" '2 mlx5: usage'
+judge 'a layout without a name' "$(said "$mlx5" layout)" '2 mlx5: usage'
 judge 'a wrong word' "$(said "$mlx5" walk)" '2 mlx5: usage'
 judge 'a word that is no text' "$(said "$mlx5" $'\xff')" '2 mlx5: usage'
 judge 'a text outside the grammar' "$(said of_text x)" '3 mlx5: line 0: not built'

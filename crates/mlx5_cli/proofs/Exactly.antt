@@ -1,23 +1,18 @@
 -- What the statuses say, read from what was given.
-use Rattle.std.proofs.Common.{ℕ, ◌≡◌, ◌+◌, ◌⊎◌, inl, inr, List, ◌++◌, length, Option, None, Some, IfSome, IsSome, length-append, subst, sym, ap, ◌∙◌, append-nil, arith, refl}
+use Rattle.std.proofs.Common.{ℕ, ◌≡◌, ◌≢◌, ◌+◌, ◌⊎◌, inl, inr, List, ◌++◌, length, Option, None, Some, IfSome, IsSome, length-append, subst, sym, ap, ◌∙◌, append-nil, arith, refl}
 use Rattle.std.specs.Io.KnownBytes.{Consumes, IsAtEnd}
+use Rattle.byte_streams.specs.Source.{SourceState}
+use Rattle.mlx5_cli.specs.declared.command.Command.{Command}
+use Rattle.mlx5_cli.specs.declared.command.Command.TheVariants.{Run, Layout}
 use Rattle.mlx5_cli.specs.declared.reading.TheConstants.{TEXT_LIMIT}
 use Rattle.mlx5_cli.specs.declared.status.Status.{Status}
 use Rattle.mlx5_cli.specs.declared.status.Status.TheVariants.{Done, Illegal, Usage, Malformed, Limit, ReadFault, WriteFault, SpawnFault, NoMemory}
-use Rattle.mlx5_cli.specs.Reading.{ReadsWhole}
+use Rattle.mlx5_cli.specs.Command.{words_of}
 use Rattle.mlx5_cli.specs.Grammar.{OfGrammar}
-use Rattle.mlx5_cli.specs.Run.{Call, Says, ReadsText, UsageExactly, MalformedExactly, DoneUnless, Answers}
+use Rattle.mlx5_cli.specs.Making.{Makes, Stops, StopsRun, GivesInput, GivesScenario}
+use Rattle.mlx5_cli.specs.Reading.{ReadsWhole, ReadsText}
+use Rattle.mlx5_cli.specs.Run.{Call, Says, SaysStopped, UsageExactly, MalformedExactly, DoneUnless, Answers}
 use Rattle.mlx5_cli.proofs.GrammarLemmas.{length-of_grammar, of_grammar}
-
--- a fact about a value that is told gives another
-given : {T : Type 0} {P Q : T → Type 0} (told : Option T) → ((x : T) → P x → Q x) → IfSome told P → IfSome told Q
-given None f p = tt
-given (Some x) f p = f x p
-
--- what holds anyway holds of a value that is told
-anyway : {T : Type 0} {Q : T → Type 0} (told : Option T) → ((x : T) → Q x) → IfSome told Q
-anyway None q = tt
-anyway (Some x) q = q x
 
 -- what a source gave to its end is what it gave
 given_once : (left after : Option (List ℕ)) (text bytes : List ℕ) → IsSome left → IsAtEnd after → Consumes left after text → Consumes left after bytes → text ≡ bytes
@@ -36,56 +31,105 @@ good_read (Some input) (Some rest) text gives (inl ends) = λ good. subst OfGram
 good_read (Some input) (Some rest) text gives (inr over) =
     λ good. absurd (let within = length-of_grammar input good in let parts = ap length gives in omega (arith, length-append text rest))
 
-gives_read : (c : Call) (text : List ℕ) → ReadsText c text → Consumes c.source.left c.source_after.left text
-gives_read c text (inl whole) = whole.gives
-gives_read c text (inr over) = over.gives
+gives_read : (old new : SourceState) (text : List ℕ) → ReadsText old new text → Consumes old.left new.left text
+gives_read old new text (inl whole) = whole.gives
+gives_read old new text (inr over) = over.gives
 
-ends_read : (c : Call) (text : List ℕ) → ReadsText c text → IsAtEnd c.source_after.left ⊎ (length text ≡ TEXT_LIMIT + 1)
-ends_read c text (inl whole) = inl whole.ends
-ends_read c text (inr over) = inr over.over
+ends_read : (old new : SourceState) (text : List ℕ) → ReadsText old new text → IsAtEnd new.left ⊎ (length text ≡ TEXT_LIMIT + 1)
+ends_read old new text (inl whole) = inl whole.ends
+ends_read old new text (inr over) = inr over.over
 
--- what was read is outside the grammar, and so is the whole text
-bad_read : (P : Type 0) (c : Call) (text : List ℕ) → ReadsText c text → (¬ OfGrammar text) → IfSome c.source.left (λ input. OfGrammar input → P)
-bad_read P c text reads bad =
-    given c.source.left (λ input good_text good. absurd (bad (good_text good))) (good_read _ _ text (gives_read c text reads) (ends_read c text reads))
+-- a good text was told, so what was read of it is good
+good_text : (old new : SourceState) (text : List ℕ) → ReadsText old new text → GivesScenario old new → OfGrammar text
+good_text old new text reads gives =
+    subst (λ left. IfSome left (λ input. OfGrammar input → OfGrammar text)) gives.told
+    (good_read old.left new.left text (gives_read old new text reads) (ends_read old new text reads)) gives.good
 
 -- what was read is of the grammar, and nothing else was
-not_bad : (P : Type 0) (c : Call) (text bytes : List ℕ) → ReadsWhole c.source c.source_after text → OfGrammar text → IsSome c.source.left → ReadsText c bytes → (¬ OfGrammar bytes) → P
-not_bad P c text bytes whole good told reads bad =
-    absurd (bad (subst OfGrammar (given_once _ _ text bytes told whole.ends whole.gives (gives_read c bytes reads)) good))
+not_bad : (P : Type 0) (old new : SourceState) (text bytes : List ℕ) → ReadsWhole old new text → OfGrammar text → IsSome old.left → ReadsText old new bytes → (¬ OfGrammar bytes) → P
+not_bad P old new text bytes whole good told reads bad =
+    absurd (bad (subst OfGrammar (given_once _ _ text bytes told whole.ends whole.gives (gives_read old new bytes reads)) good))
+
+-- a command that made its output read nothing outside the grammar
+made_good : (P : Type 0) (old new : SourceState) (words : List (List ℕ)) (output bytes : List ℕ) (command : Command) → words ≡ words_of command → Makes command old new output
+    → words ≡ words_of Run → IsSome old.left → ReadsText old new bytes → (¬ OfGrammar bytes) → P
+made_good P old new words output bytes Run asked makes run told reads bad = not_bad P old new makes.text bytes makes.reads (of_grammar makes.runs) told reads bad
+made_good P old new words output bytes (Layout name) asked makes run told reads bad = cc
+
+-- a command that stopped with neither of these was malformed
+stopped_malformed : (old new : SourceState) (words : List (List ℕ)) (command : Command) (status : Status) → words ≡ words_of command → Stops command old new status
+    → words ≡ words_of Run → status ≢ ReadFault → status ≢ NoMemory → status ≡ Malformed
+stopped_malformed old new words (Layout name) status asked stops run not_read memory = cc
+stopped_malformed old new words Run Malformed asked stops run not_read memory = refl
+stopped_malformed old new words Run ReadFault asked stops run not_read memory = absurd (not_read refl)
+stopped_malformed old new words Run NoMemory asked stops run not_read memory = absurd (memory refl)
+stopped_malformed old new words Run Done asked stops run not_read memory = absurd stops
+stopped_malformed old new words Run Illegal asked stops run not_read memory = absurd stops
+stopped_malformed old new words Run Usage asked stops run not_read memory = absurd stops
+stopped_malformed old new words Run Limit asked stops run not_read memory = absurd stops
+stopped_malformed old new words Run WriteFault asked stops run not_read memory = absurd stops
+stopped_malformed old new words Run SpawnFault asked stops run not_read memory = absurd stops
+
+-- what a scenario's source gave is no reason for `run` to stop
+run_goes_on : (P : Type 0) (old new : SourceState) (status : Status) → StopsRun old new status → GivesScenario old new → status ≢ NoMemory → P
+run_goes_on P old new Malformed stops gives memory = absurd (stops.outside (good_text old new stops.text stops.reads gives))
+run_goes_on P old new ReadFault stops gives memory = absurd (gives.no_fault stops)
+run_goes_on P old new NoMemory stops gives memory = absurd (memory refl)
+run_goes_on P old new Done stops gives memory = absurd stops
+run_goes_on P old new Illegal stops gives memory = absurd stops
+run_goes_on P old new Usage stops gives memory = absurd stops
+run_goes_on P old new Limit stops gives memory = absurd stops
+run_goes_on P old new WriteFault stops gives memory = absurd stops
+run_goes_on P old new SpawnFault stops gives memory = absurd stops
+
+-- a command whose source gave what it wants does not stop
+goes_on : (P : Type 0) (old new : SourceState) (words : List (List ℕ)) (command asked_for : Command) (status : Status) → words ≡ words_of command → words ≡ words_of asked_for
+    → Stops command old new status → GivesInput asked_for old new → status ≢ NoMemory → P
+goes_on P old new words Run Run status asked asks stops gives memory = run_goes_on P old new status stops gives memory
+goes_on P old new words Run (Layout name) status asked asks stops gives memory = cc
+goes_on P old new words (Layout name) asked_for status asked asks stops gives memory = absurd (memory stops.0)
+
+stopped_usage : (c : Call) (status other : Status) → SaysStopped c other → status ≢ Usage → UsageExactly c status
+stopped_usage c status other says differs = (λ e. absurd (differs e), λ nothing. absurd (nothing says.command says.asked))
 
 usage_exactly : (c : Call) (status : Status) → Says c status → UsageExactly c status
 usage_exactly c Usage says = (λ _. says.not_asked, λ _. refl)
-usage_exactly c Done says = let asked = says.asked in (λ e. cc, λ e. cc)
-usage_exactly c Malformed says = let asked = says.asked in (λ e. cc, λ e. cc)
-usage_exactly c ReadFault says = let asked = says.asked in (λ e. cc, λ e. cc)
-usage_exactly c WriteFault says = let asked = says.asked in (λ e. cc, λ e. cc)
-usage_exactly c NoMemory says = let asked = says.asked in (λ e. cc, λ e. cc)
-usage_exactly c Illegal says = absurd says
-usage_exactly c Limit says = absurd says
-usage_exactly c SpawnFault says = absurd says
+usage_exactly c Done says = (λ e. cc, λ nothing. absurd (nothing says.command says.asked))
+usage_exactly c WriteFault says = (λ e. cc, λ nothing. absurd (nothing says.command says.asked))
+usage_exactly c Malformed says = stopped_usage c _ _ says (λ e. cc)
+usage_exactly c ReadFault says = stopped_usage c _ _ says (λ e. cc)
+usage_exactly c NoMemory says = stopped_usage c _ _ says (λ e. cc)
+usage_exactly c Illegal says = stopped_usage c _ _ says (λ e. cc)
+usage_exactly c Limit says = stopped_usage c _ _ says (λ e. cc)
+usage_exactly c SpawnFault says = stopped_usage c _ _ says (λ e. cc)
+
+stopped_exactly : (c : Call) (status : Status) → SaysStopped c status → MalformedExactly c status
+stopped_exactly c status says = λ run not_read memory _ _ _ _. stopped_malformed c.source c.source_after c.words says.command status says.asked says.stops run not_read memory
 
 malformed_exactly : (c : Call) (status : Status) → Says c status → MalformedExactly c status
-malformed_exactly c Done says = λ _ _ _ told bytes reads bad. let prints = says.prints.2 in not_bad _ c says.prints.0 bytes prints.reads (of_grammar prints.runs) told reads bad
-malformed_exactly c Usage says = λ asked _ _ _ _ _ _. let not_asked = says.not_asked in cc
-malformed_exactly c Malformed says = λ _ _ _ _ _ _ _. refl
-malformed_exactly c ReadFault says = λ _ not_read _ _ _ _ _. absurd (not_read refl)
-malformed_exactly c WriteFault says = λ _ _ _ told bytes reads bad. let prints = says.prints.2 in not_bad _ c says.prints.0 bytes prints.reads (of_grammar prints.runs) told reads bad
-malformed_exactly c NoMemory says = λ _ _ memory _ _ _ _. absurd (memory refl)
-malformed_exactly c Illegal says = absurd says
-malformed_exactly c Limit says = absurd says
-malformed_exactly c SpawnFault says = absurd says
+malformed_exactly c Done says = λ run _ _ told bytes reads bad. made_good _ _ _ _ _ bytes says.command says.asked says.makes run told reads bad
+malformed_exactly c WriteFault says = λ run _ _ told bytes reads bad. made_good _ _ _ _ _ bytes says.command says.asked says.makes run told reads bad
+malformed_exactly c Usage says = λ run _ _ _ _ _ _. absurd (says.not_asked Run run)
+malformed_exactly c Malformed says = stopped_exactly c _ says
+malformed_exactly c ReadFault says = stopped_exactly c _ says
+malformed_exactly c NoMemory says = stopped_exactly c _ says
+malformed_exactly c Illegal says = stopped_exactly c _ says
+malformed_exactly c Limit says = stopped_exactly c _ says
+malformed_exactly c SpawnFault says = stopped_exactly c _ says
+
+stopped_unless : (c : Call) (status : Status) → SaysStopped c status → DoneUnless c status
+stopped_unless c status says = λ command asked gives _ memory. goes_on _ c.source c.source_after c.words says.command command status says.asked asked says.stops gives memory
 
 done_unless : (c : Call) (status : Status) → Says c status → DoneUnless c status
-done_unless c Done says = λ _ _ _. anyway c.source.left (λ _ _. refl)
-done_unless c Usage says = λ asked _ _. let not_asked = says.not_asked in cc
-done_unless c Malformed says = λ _ _ _. bad_read _ c says.reads.0 says.reads.1 says.reads.2
-done_unless c ReadFault says = λ _ whole _. absurd (whole.source says.rose)
-done_unless c WriteFault says = λ _ whole _. absurd (whole.out says.rose)
-done_unless c NoMemory says = λ _ _ memory. absurd (memory refl)
-done_unless c Illegal says = absurd says
-done_unless c Limit says = absurd says
-done_unless c SpawnFault says = absurd says
+done_unless c Done says = λ _ _ _ _ _. refl
+done_unless c Usage says = λ command asked _ _ _. absurd (says.not_asked command asked)
+done_unless c WriteFault says = λ _ _ _ whole _. absurd (whole says.rose)
+done_unless c Malformed says = stopped_unless c _ says
+done_unless c ReadFault says = stopped_unless c _ says
+done_unless c NoMemory says = stopped_unless c _ says
+done_unless c Illegal says = stopped_unless c _ says
+done_unless c Limit says = stopped_unless c _ says
+done_unless c SpawnFault says = stopped_unless c _ says
 
 pub answers : (c : Call) (status : Status) → Says c status → Answers c status
 answers c status says = record {

@@ -1,4 +1,6 @@
 mod Exactly
 mod Entries
 mod GrammarLemmas
+mod LayoutNames
 mod Refusing
+mod WordLists

@@ -2,7 +2,9 @@
 //! its standard streams.
 #![tactic(auto)]
 
+mod command;
 mod history;
+mod layouts;
 mod reading;
 mod run;
 mod status;

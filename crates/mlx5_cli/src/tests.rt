@@ -42,6 +42,14 @@ const PRINTED: Answer = Answer {
     line: "",
 };
 
+const REMOTE_ADDRESS_ROWS: &str = "addr 0 64\nrkey 64 32\nreserved 96 32\n";
+
+const ROWS_PRINTED: Answer = Answer {
+    status: Status::Done,
+    output: REMOTE_ADDRESS_ROWS,
+    line: "",
+};
+
 const USAGE: Answer = Answer {
     status: Status::Usage,
     output: "",
@@ -83,13 +91,20 @@ fn expect<R: Abort + AllocGlobal>(
 
 #[test]
 fn words_that_ask_for_nothing(rt: HostRuntime) -> Result<(), Fail> {
-    let refused: [&[&str]; 6] = [
+    let refused: [&[&str]; 13] = [
         &[],
         &[""],
         &["Run"],
         &["runs"],
         &["run", "run"],
+        &["run", "raddr"],
         &["threads"],
+        &["layout"],
+        &["layout", ""],
+        &["layout", "foo"],
+        &["layout", "Raddr"],
+        &["layout", "cqe", "extra"],
+        &["raddr"],
     ];
     for texts in refused {
         let mut source = TextSource::new(b"");
@@ -121,6 +136,39 @@ fn the_first_scenario(rt: HostRuntime) -> Result<(), Fail> {
         out.step = step;
         expect(&rt, &["run"], &mut source, &mut out, &PRINTED)?;
         assert_eq!(rt; source.rest.len(), 0);
+    }
+    Ok(())
+}
+
+#[test]
+fn the_rows_of_a_layout(rt: HostRuntime) -> Result<(), Fail> {
+    for step in [1, 2, 64] {
+        let mut source = TextSource::new(SCENARIO);
+        let mut out = TextSink::new(rt.alloc());
+        out.step = step;
+        let words = ["layout", "raddr"];
+        expect(&rt, &words, &mut source, &mut out, &ROWS_PRINTED)?;
+        assert_eq!(rt; source.calls, 0);
+    }
+    Ok(())
+}
+
+#[test]
+fn rows_of_which_a_write_fails(rt: HostRuntime) -> Result<(), Fail> {
+    for call in 0..REMOTE_ADDRESS_ROWS.len() {
+        let failing = [call as u64];
+        let mut source = TextSource::new(b"");
+        let mut out = TextSink::new(rt.alloc());
+        out.step = 1;
+        out.failing = &failing;
+        let answer = Answer {
+            status: Status::WriteFault,
+            output: REMOTE_ADDRESS_ROWS.get(..call).unwrap_or("none"),
+            line: "mlx5: write fault\n",
+        };
+        let words = ["layout", "raddr"];
+        expect(&rt, &words, &mut source, &mut out, &answer)?;
+        assert_eq!(rt; source.calls, 0);
     }
     Ok(())
 }
