@@ -1,5 +1,5 @@
 -- Every layout is among those that a name is looked for in.
-use Rattle.std.proofs.Common.{ℕ, ◌≡◌, ◌≢◌, List, length, Option, None, Some, IfNone, MatchOption, arith, refl}
+use Rattle.std.proofs.Common.{◌≡◌, length, Option, None, Some, IfNone, MatchOption, arith, refl}
 use Rattle.std.specs.List.{AllWithin}
 use Rattle.prm_fields.specs.declared.layout.LayoutName.{LayoutName}
 use Rattle.prm_fields.specs.declared.layout.LayoutName.TheVariants.{Cqe, CqeErr, EqeCq, EqeError, Ctrl, Raddr, Atomic, DataUnit, Inline, Next, CmdEntry, BlockTail, CqContext, MkeyContext, EqBlock, SrqBlock, QpBlock}

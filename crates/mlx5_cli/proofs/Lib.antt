@@ -1,5 +1,6 @@
 mod Exactly
 mod Entries
+mod FaultLemmas
 mod GrammarLemmas
 mod LayoutNames
 mod Refusing

@@ -1,5 +1,5 @@
 -- Lists of one and of two words.
-use Rattle.std.proofs.Common.{String, map, string_bytes, ℕ, ◌≡◌, ◌≤◌, ◌<◌, List, [], ◌∷◌, length, get_or, arith, ap}
+use Rattle.std.proofs.Common.{String, map, string_bytes, ℕ, ◌≡◌, ◌≤◌, ◌<◌, List, [], ◌∷◌, length, get_or, arith}
 use Rattle.std.specs.declared.alloc.Global.{Global}
 
 pub one_word : (words : List (String Global)) (word : String Global) (text : List ℕ) → 1 ≤ length words → length words < 2 → word ≡ get_or words 0 word → string_bytes word ≡ text → map string_bytes words ≡ text ∷ []

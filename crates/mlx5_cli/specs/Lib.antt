@@ -2,6 +2,7 @@ pub mod Command
 pub mod Status
 pub mod Reading
 pub mod Grammar
+pub mod Faults
 pub mod History
 pub mod Layouts
 pub mod Making

@@ -1,11 +1,14 @@
 -- What a command makes of its input, and why it stops before it writes.
-use Rattle.std.specs.Prelude.{ℕ, ◌≡◌, List, Option, Some}
+use Rattle.std.specs.Prelude.{ℕ, ◌≡◌, List, Some}
 use Rattle.byte_streams.specs.Count.{Rose}
 use Rattle.byte_streams.specs.Source.{SourceState}
+use Rattle.scenario_text.specs.declared.fault.ScenarioFault.{ScenarioFault}
+use Rattle.scenario_text.specs.declared.fault.ScenarioFault.TheVariants.{Malformed as MalformedText, Limit as PastLimit}
 use Rattle.mlx5_cli.specs.declared.command.Command.{Command}
 use Rattle.mlx5_cli.specs.declared.command.Command.TheVariants.{Run, Layout}
 use Rattle.mlx5_cli.specs.declared.status.Status.{Status}
-use Rattle.mlx5_cli.specs.declared.status.Status.TheVariants.{Malformed, ReadFault, NoMemory}
+use Rattle.mlx5_cli.specs.declared.status.Status.TheVariants.{Malformed, Limit, ReadFault, NoMemory}
+use Rattle.mlx5_cli.specs.Faults.{IsFaultOf}
 use Rattle.mlx5_cli.specs.Grammar.{OfGrammar}
 use Rattle.mlx5_cli.specs.History.{IsHistoryOf}
 use Rattle.mlx5_cli.specs.Layouts.{layout_lines}
@@ -22,15 +25,16 @@ abbrev pub Makes : Command → SourceState → SourceState → List ℕ → Type
 Makes Run old new output = MakesHistory old new output
 Makes (Layout name) old new output = (new ≡ old) × (output ≡ layout_lines name)
 
--- what was read is outside the grammar
-pub record ReadsOutside (old new : SourceState) : Type 0 where
+-- what was read is refused with this fault
+pub record ReadsFaulty (old new : SourceState) (fault : ScenarioFault) : Type 0 where
   pub text : List ℕ
   pub reads : ReadsText old new text
-  pub outside : ¬ OfGrammar text
+  pub refused : IsFaultOf text fault
 
 -- why `run` stops before it writes
 abbrev pub StopsRun : SourceState → SourceState → Status → Type 0
-StopsRun old new Malformed = ReadsOutside old new
+StopsRun old new (Malformed line rule) = ReadsFaulty old new (MalformedText line rule)
+StopsRun old new (Limit name value) = ReadsFaulty old new (PastLimit name value)
 StopsRun old new ReadFault = Rose old.faults new.faults
 StopsRun old new NoMemory = Unit {0}
 StopsRun old new _ = ⊥

@@ -6,14 +6,15 @@ use Rattle.byte_streams.specs.Count.{Rose}
 use Rattle.byte_streams.specs.Sink.{SinkState}
 use Rattle.byte_streams.specs.Source.{SourceState}
 use Rattle.byte_streams.specs.Writing.{WritesPart}
+use Rattle.scenario_text.specs.declared.fault.LimitName.{LimitName}
+use Rattle.scenario_text.specs.declared.fault.ScenarioFault.TheVariants.{Malformed as MalformedText, Limit as PastLimit}
+use Rattle.scenario_text.specs.declared.fault.TextRule.{TextRule}
 use Rattle.mlx5_cli.specs.declared.command.Command.{Command}
 use Rattle.mlx5_cli.specs.declared.command.Command.TheVariants.{Run}
 use Rattle.mlx5_cli.specs.declared.status.Status.{Status}
-use Rattle.mlx5_cli.specs.declared.status.Status.TheVariants.{Done, Usage, Malformed, ReadFault, WriteFault, NoMemory}
+use Rattle.mlx5_cli.specs.declared.status.Status.TheVariants.{Done, Usage, Malformed, Limit, ReadFault, WriteFault, NoMemory}
 use Rattle.mlx5_cli.specs.Command.{words_of, AskNothing}
-use Rattle.mlx5_cli.specs.Grammar.{OfGrammar}
-use Rattle.mlx5_cli.specs.Making.{Makes, Stops, GivesInput}
-use Rattle.mlx5_cli.specs.Reading.{ReadsText}
+use Rattle.mlx5_cli.specs.Making.{Makes, Stops, ReadsFaulty, GivesInput}
 
 pub record Call : Type 0 where
   -- the bytes of each word
@@ -78,10 +79,20 @@ status_of (Err status) = status
 abbrev pub UsageExactly : Call → Status → Type 0
 UsageExactly c status = (status ≡ Usage) ↔ AskNothing c.words
 
--- Malformed exactly where what a telling source gave to `run` is outside the grammar, unless a read failed or memory ran out
+-- `run` read from a telling source, no read failed and memory did not run out
+pub record RunReads (c : Call) (status : Status) : Type 0 where
+  pub asked : c.words ≡ words_of Run
+  pub not_failed : status ≢ ReadFault
+  pub memory : status ≢ NoMemory
+  pub tells : IsSome c.source.left
+
+-- Malformed, with its line and rule, exactly where what was read is malformed so
 abbrev pub MalformedExactly : Call → Status → Type 0
-MalformedExactly c status = c.words ≡ words_of Run → status ≢ ReadFault → status ≢ NoMemory
-    → IsSome c.source.left → (text : List ℕ) → ReadsText c.source c.source_after text → (¬ OfGrammar text) → status ≡ Malformed
+MalformedExactly c status = RunReads c status → (line : ℕ) (rule : TextRule) → ReadsFaulty c.source c.source_after (MalformedText line rule) → status ≡ Malformed line rule
+
+-- Limit, with its name and value, exactly where what was read passes that limit so
+abbrev pub LimitExactly : Call → Status → Type 0
+LimitExactly c status = RunReads c status → (name : LimitName) (value : ℕ) → ReadsFaulty c.source c.source_after (PastLimit name value) → status ≡ Limit name value
 
 -- a command whose source gave what it wants is done, unless a write failed or memory ran out
 abbrev pub DoneUnless : Call → Status → Type 0
@@ -93,6 +104,7 @@ pub record Answers (c : Call) (status : Status) : Type 0 where
   pub says : Says c status
   pub usage : UsageExactly c status
   pub malformed : MalformedExactly c status
+  pub limit : LimitExactly c status
   pub done : DoneUnless c status
 
 -- no more than the line went to the error sink, and the whole of it unless a write failed

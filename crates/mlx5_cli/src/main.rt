@@ -5,6 +5,7 @@
 mod command;
 mod history;
 mod layouts;
+mod line;
 mod reading;
 mod run;
 mod status;

@@ -5,11 +5,12 @@ ghost use Rattle.mlx5_cli.specs.Making.{MakesHistory, Makes, Stops, StopsRun};
 ghost use Rattle.mlx5_cli.specs.Run.{call, Says, status_of, Answers, Tells};
 
 use crate::command::{Command, command_of};
-use crate::history::{Refusal, history_of};
+use crate::history::history_of;
 use crate::layouts::layout_lines;
-use crate::reading::{ReadError, read_all};
+use crate::reading::{ReadError, TEXT_LIMIT, read_all};
 use crate::status::Status;
 use byte_streams::{Sink, Source, write_all};
+use scenario_text::{LimitName, ScenarioFault};
 use std::alloc::Global;
 
 impl From<ReadError> for Status {
@@ -21,22 +22,26 @@ impl From<ReadError> for Status {
     fn from(error: ReadError) -> Status {
         match error {
             ReadError::Failed => Status::ReadFault,
-            ReadError::TooLong => Status::Malformed,
+            ReadError::TooLong => Status::Limit {
+                name: LimitName::Text,
+                value: TEXT_LIMIT as u64 + 1,
+            },
             ReadError::NoMemory => Status::NoMemory,
         }
     }
 }
 
-impl From<Refusal> for Status {
+impl From<ScenarioFault> for Status {
     ghost use Rattle.std.specs.Prelude.{◌≡◌};
-    ghost use Rattle.mlx5_cli.specs.Status.{status_of_refused};
+    ghost use Rattle.mlx5_cli.specs.Status.{status_of_fault};
 
-    ghost from_gives = { λ e s. s ≡ status_of_refused e };
+    ghost from_gives = { λ e s. s ≡ status_of_fault e };
 
-    fn from(refusal: Refusal) -> Status {
-        match refusal {
-            Refusal::NotBuilt => Status::Malformed,
-            Refusal::NoMemory => Status::NoMemory,
+    fn from(fault: ScenarioFault) -> Status {
+        match fault {
+            ScenarioFault::Malformed { line, why } => Status::Malformed { line, rule: why },
+            ScenarioFault::Limit { name, value } => Status::Limit { name, value },
+            ScenarioFault::NoMemory => Status::NoMemory,
         }
     }
 }
@@ -72,7 +77,7 @@ pub fn run_plain<S: Source, K: Sink, E: Sink>(
 pub fn say<E: Sink>(err: &mut E, status: Status)
     ensures { Tells (E.state err.old) (E.state err.new) (line_of status) }
 {
-    let _ = write_all(err, status.line().as_bytes());
+    let _ = write_all(err, status.line().as_str().as_bytes());
 }
 
 /// Makes the command's whole output and writes it, or stops with the status that ends the command.
@@ -105,6 +110,7 @@ fn output_of<S: Source>(alloc: Global, command: Command, source: &mut S) -> Resu
 }
 
 /// The history of a run of the scenario that the source gives.
+#[tactic(auto, using(crate::proofs::Refusing::stops_unread, crate::proofs::Refusing::stops_refused))]
 fn history_read<S: Source>(alloc: Global, source: &mut S) -> Result<Vec<u8>, Status>
     ensures makes { IfOk result (λ history. MakesHistory (S.state source.old) (S.state source.new) history.items) }
     ensures stops { IfErr result (StopsRun (S.state source.old) (S.state source.new)) }

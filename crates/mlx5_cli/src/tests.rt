@@ -4,6 +4,7 @@ use crate::run::run_plain;
 use crate::status::Status;
 use crate::words::words_after_name;
 use byte_streams::{Failed, Sink, Source, StreamSink, StreamSource, TextSink, TextSource};
+use scenario_text::{LimitName, TextRule};
 use std::alloc::AllocError;
 use std::env::{Env, FillError};
 use std::io;
@@ -42,6 +43,16 @@ const PRINTED: Answer = Answer {
     line: "",
 };
 
+const NOT_BUILT_YET: Status = Status::Malformed {
+    line: 0,
+    rule: TextRule::NotBuilt,
+};
+
+const TEXT_TOO_LONG: Status = Status::Limit {
+    name: LimitName::Text,
+    value: 4_194_305,
+};
+
 const REMOTE_ADDRESS_ROWS: &str = "addr 0 64\nrkey 64 32\nreserved 96 32\n";
 
 const ROWS_PRINTED: Answer = Answer {
@@ -57,7 +68,7 @@ const USAGE: Answer = Answer {
 };
 
 const NOT_BUILT: Answer = Answer {
-    status: Status::Malformed,
+    status: NOT_BUILT_YET,
     output: "",
     line: "mlx5: line 0: not built\n",
 };
@@ -244,7 +255,12 @@ impl Source for Repeated {
 fn the_limit_of_a_text(rt: HostRuntime) -> Result<(), Fail> {
     let mut words = Vec::new(rt.alloc());
     words.push(String::from_str(rt.alloc(), "run")?)?;
-    for (length, left) in [(4_194_304, 0), (4_194_305, 0), (4_194_306, 1)] {
+    let texts = [
+        (4_194_304, 0, NOT_BUILT_YET),
+        (4_194_305, 0, TEXT_TOO_LONG),
+        (4_194_306, 1, TEXT_TOO_LONG),
+    ];
+    for (length, left, expected) in texts {
         let mut source = Repeated {
             left: length,
             calls: 0,
@@ -258,7 +274,8 @@ fn the_limit_of_a_text(rt: HostRuntime) -> Result<(), Fail> {
             &mut out,
             &mut err,
         );
-        assert_eq!(rt; status, Status::Malformed);
+        assert_eq!(rt; status, expected);
+        assert!(rt; err.written.as_slice() == expected.line().as_str().as_bytes());
         assert_eq!(rt; source.left, left);
         assert_eq!(rt; source.calls, 1025);
     }
@@ -292,8 +309,8 @@ fn numbers_of_statuses(rt: HostRuntime) {
         (Status::Done, 0),
         (Status::Illegal, 1),
         (Status::Usage, 2),
-        (Status::Malformed, 3),
-        (Status::Limit, 4),
+        (NOT_BUILT_YET, 3),
+        (TEXT_TOO_LONG, 4),
         (Status::ReadFault, 5),
         (Status::WriteFault, 6),
         (Status::SpawnFault, 7),
@@ -302,6 +319,27 @@ fn numbers_of_statuses(rt: HostRuntime) {
     for (status, number) in statuses {
         assert_eq!(rt; status.number(), number);
     }
+}
+
+#[test]
+fn lines_with_numbers(rt: HostRuntime) {
+    let malformed = Status::Malformed {
+        line: u32::MAX,
+        rule: TextRule::NotBuilt,
+    };
+    assert_eq!(rt;
+        malformed.line().as_str(),
+        "mlx5: line 4294967295: not built\n"
+    );
+    assert_eq!(rt; TEXT_TOO_LONG.line().as_str(), "mlx5: limit text 4194305\n");
+    let limit = Status::Limit {
+        name: LimitName::Immediate,
+        value: u64::MAX,
+    };
+    assert_eq!(rt;
+        limit.line().as_str(),
+        "mlx5: limit immediate 18446744073709551615\n"
+    );
 }
 
 /// A stream that can do nothing.

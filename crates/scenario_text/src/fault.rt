@@ -1,6 +1,6 @@
 //! Why a text is no scenario.
 ghost use Rattle.std.specs.Prelude.{◌≡◌};
-ghost use Rattle.scenario_text.specs.Faults.{rule_text};
+ghost use Rattle.scenario_text.specs.Faults.{limit_text, rule_text};
 
 use std::alloc::{AllocError, AllocFailed};
 use std::fmt;
@@ -56,12 +56,99 @@ impl fmt::Display for TextRule {
     }
 }
 
+/// A quantity of a scenario that has a limit.
+#[derive(Clone, Copy, Debug, PartialEq, Eq)]
+pub enum LimitName {
+    /// Bytes of the text.
+    Text,
+    /// Declared threads.
+    Threads,
+    /// Calls of one thread.
+    Calls,
+    /// Requests or receives of one post.
+    List,
+    /// Declared objects of a kind.
+    Objects,
+    /// Bytes of data memory.
+    Arena,
+    /// The base 2 logarithm of the entries of a queue.
+    Log,
+    /// Scatter/gather entries of a queue or of a request, and bytes of an inline request.
+    Sges,
+    /// The value at which a queue's counts start.
+    Start,
+    /// Bytes of a scatter/gather entry, or of all those of a request.
+    Length,
+    /// The value of immediate data.
+    Immediate,
+    /// Completions that a poll asks for.
+    Poll,
+    /// Completions that a drain asks for.
+    Drain,
+    /// Bytes that a call reads or writes.
+    Bytes,
+    /// Events that an event queue may have at once.
+    Events,
+    /// Turns of the schedule.
+    Turns,
+    /// Words of the address map.
+    Words,
+    /// The weight of the objects and calls, which bounds the entries of the history.
+    Notes,
+    /// The weight of what the closing is to undo, which bounds its turns.
+    Closing,
+}
+
+impl LimitName {
+    /// The quantity in a word.
+    pub fn as_str(self) -> &'static str
+        ensures { result.now ≡ limit_text self }
+    {
+        match self {
+            LimitName::Text => "text",
+            LimitName::Threads => "threads",
+            LimitName::Calls => "calls",
+            LimitName::List => "list",
+            LimitName::Objects => "objects",
+            LimitName::Arena => "arena",
+            LimitName::Log => "log",
+            LimitName::Sges => "sges",
+            LimitName::Start => "start",
+            LimitName::Length => "length",
+            LimitName::Immediate => "immediate",
+            LimitName::Poll => "poll",
+            LimitName::Drain => "drain",
+            LimitName::Bytes => "bytes",
+            LimitName::Events => "events",
+            LimitName::Turns => "turns",
+            LimitName::Words => "words",
+            LimitName::Notes => "notes",
+            LimitName::Closing => "closing",
+        }
+    }
+}
+
+impl fmt::Display for LimitName {
+    ghost use Rattle.std.specs.Prelude.{Some};
+    ghost use Rattle.scenario_text.specs.Faults.{limit_text};
+
+    ghost output = { λ name. Some (limit_text name) };
+
+    fn fmt<W: fmt::Write>(&self, f: &mut fmt::Formatter<W>) -> fmt::Result {
+        f.write_str(self.as_str())
+    }
+}
+
 /// Why a text gave no scenario.
 #[derive(Clone, Copy, Debug, PartialEq, Eq, Error)]
 pub enum ScenarioFault {
     /// The text is of no scenario: the first line that breaks a rule, counted from 1, and that rule.
     #[error("line {line}: {why}")]
     Malformed { line: u32, why: TextRule },
+    /// The text is of the grammar, but this quantity of it passes its limit. `parse_scenario` does not
+    /// answer it yet.
+    #[error("limit {name} {value}")]
+    Limit { name: LimitName, value: u64 },
     #[error("out of memory")]
     NoMemory,
 }

@@ -16,6 +16,6 @@ mod sides;
 #[cfg(test)]
 mod tests;
 
-pub use fault::{ScenarioFault, TextRule};
+pub use fault::{LimitName, ScenarioFault, TextRule};
 pub use parse::parse_scenario;
 pub use scenario::{Plan, PlanItem, Scenario, ScenarioParts};
