@@ -16,8 +16,10 @@ into_closed_pipe() {
     "$mlx5" run </dev/null >&"$pipe"
 }
 
+layout_into_full_device() { "$mlx5" layout raddr >/dev/full; }
 from_folder() { "$mlx5" run <"$PWD"; }
 from_elsewhere() { (cd / && "$mlx5" run </dev/null); }
+of_long_text() { head -c 4194305 /dev/zero | "$mlx5" run; }
 of_text() { printf '%s' "$1" | "$mlx5" run; }
 
 # The first run builds the program.
@@ -26,9 +28,14 @@ of_text() { printf '%s' "$1" | "$mlx5" run; }
 judge 'the empty text' "$(said "$mlx5" run </dev/null)" '0 '
 judge 'another folder' "$(said from_elsewhere)" '0 '
 judge 'no words' "$(said "$mlx5")" '2 mlx5: usage'
+judge 'a layout' "$("$mlx5" layout raddr <&-)" $'addr 0 64\nrkey 64 32\nreserved 96 32'
+judge 'a layout into a full device' "$(said layout_into_full_device)" '6 mlx5: write fault'
+judge 'a layout that is not there' "$(said "$mlx5" layout foo)" '2 mlx5: usage'
+judge 'a layout without a name' "$(said "$mlx5" layout)" '2 mlx5: usage'
 judge 'a wrong word' "$(said "$mlx5" walk)" '2 mlx5: usage'
 judge 'a word that is no text' "$(said "$mlx5" $'\xff')" '2 mlx5: usage'
 judge 'a text outside the grammar' "$(said of_text x)" '3 mlx5: line 0: not built'
+judge 'a text that is too long' "$(said of_long_text)" '4 mlx5: limit text 4194305'
 judge 'a folder as input' "$(said from_folder)" '5 mlx5: read fault'
 judge 'a full device' "$(said into_full_device)" '6 mlx5: write fault'
 judge 'a closed pipe' "$(said into_closed_pipe)" '6 mlx5: write fault'

@@ -1,6 +1,6 @@
 -- The entries of a run are of declared actors and name declared objects.
-use Rattle.std.proofs.Common.{◌≡◌, ℕ, zero, suc, ◌≤◌, List, [], ◌∷◌, length, All, IsTrue, inl, inr, ⊎_elim, replicate, refl, sym, subst, arith}
-use Rattle.std.specs.List.{flat_map, list_all}
+use Rattle.std.proofs.Common.{◌≡◌, ℕ, zero, suc, ◌+◌, ◌≤◌, List, [], ◌∷◌, length, All, IsTrue, inl, inr, ⊎_elim, replicate, refl, sym, subst, arith}
+use Rattle.std.specs.List.{flat_map, list_all, range_with_len}
 use Rattle.std.proofs.lemmas.Bool.{and_parts}
 use Rattle.std.proofs.lemmas.Bool.Decides.{nat_tests}
 use Rattle.std.proofs.lemmas.List.Elements.{All-append, All-cons, All-head, All-replicate, All-tail}
@@ -27,8 +27,8 @@ use Rattle.scenario_text.specs.declared.scenario.Plan.{Plan}
 use Rattle.scenario_text.specs.declared.scenario.Plan.TheVariants.{Idle, Schedule, Rounds}
 use Rattle.scenario_text.specs.declared.scenario.PlanItem.{PlanItem}
 use Rattle.scenario_text.specs.declared.scenario.ScenarioParts.{ScenarioParts}
-use Rattle.scenario_text.specs.Grammar.{IsFirstPath, IsItem, IsScenario, IsSchedule}
-use Rattle.scenario_text.specs.Limits.{times_of, turns_of}
+use Rattle.scenario_text.specs.Limits.{times_of, turns_of, round_of, rounds_of}
+use Rattle.scenario_text.specs.Running.{CanRun, IsActorOf, IsPlan}
 use Rattle.transcript_text.specs.Numbers.{IsActor, IsCompletion, IsEntry, IsQueue, NamesDeclared}
 use Rattle.world_core.specs.Machine.{start_running}
 use Rattle.world_core.specs.World.{IsRun}
@@ -107,30 +107,37 @@ actors_of_turns P r (actor ∷ turns) (e ∷ h) are turned =
     (actors_of_turns P (after_turn r e) turns h (All-tail P actor turns are) made.2))
     turned
 
-turns_of_items : (d : Lines) (items : List PlanItem) → All (IsItem d) items → All (λ t. t ≤ length d.threads) (flat_map (λ (i : PlanItem). replicate (times_of i) i.actor) items)
-turns_of_items d [] are = λ k e below. absurd (omega (arith, below))
-turns_of_items d (i ∷ items) are =
-    All-append (λ t. t ≤ length d.threads) (replicate (times_of i) i.actor) (flat_map (λ (i : PlanItem). replicate (times_of i) i.actor) items)
-    (All-replicate (λ t. t ≤ length d.threads) (times_of i) i.actor (All-head (IsItem d) i items are).0)
-    (turns_of_items d items (All-tail (IsItem d) i items are))
+turns_of_items : (threads : ℕ) (items : List PlanItem) → All (IsActorOf threads) items → All (λ t. t ≤ threads) (flat_map (λ (i : PlanItem). replicate (times_of i) i.actor) items)
+turns_of_items threads [] are = λ k e below. absurd (omega (arith, below))
+turns_of_items threads (i ∷ items) are =
+    All-append (λ t. t ≤ threads) (replicate (times_of i) i.actor) (flat_map (λ (i : PlanItem). replicate (times_of i) i.actor) items)
+    (All-replicate (λ t. t ≤ threads) (times_of i) i.actor (All-head (IsActorOf threads) i items are))
+    (turns_of_items threads items (All-tail (IsActorOf threads) i items are))
 
-turns_of_plan : (d : Lines) (plan : Plan) → IsSchedule d plan → All (λ t. t ≤ length d.threads) (turns_of (length d.threads) plan)
-turns_of_plan d Idle is = absurd is
-turns_of_plan d (Rounds n) is = absurd is
-turns_of_plan d (Schedule items) is = turns_of_items d items is.1
+turns_in_row : (threads first n : ℕ) → first + n ≤ threads + 1 → All (λ t. t ≤ threads) (range_with_len first n)
+turns_in_row threads first zero within = λ k e below. absurd (omega (arith, below))
+turns_in_row threads first (suc n) within =
+    All-cons (λ t. t ≤ threads) first (range_with_len (suc first) n) (omega (arith, within)) (turns_in_row threads (suc first) n (omega (arith, within)))
 
-turns_of_scenario : (s : ScenarioParts) → IsScenario s → All (λ t. t ≤ length s.lines.threads) (turns_of (length s.lines.threads) s.plan)
-turns_of_scenario s is =
-    ⊎_elim (λ none. subst (λ (s : ScenarioParts). All (λ t. t ≤ length s.lines.threads) (turns_of (length s.lines.threads) s.plan)) (sym none) (λ k e below. absurd (omega (arith, below))))
-    (λ (first : IsFirstPath s). turns_of_plan s.lines s.plan first.schedule)
-    is
+turns_of_round : (threads : ℕ) → All (λ t. t ≤ threads) (round_of threads)
+turns_of_round threads =
+    All-append (λ t. t ≤ threads) (range_with_len 1 threads) (0 ∷ []) (turns_in_row threads 1 threads (omega arith)) (All-cons (λ t. t ≤ threads) 0 [] (omega arith) (λ k e below. absurd (omega (arith, below))))
+
+turns_of_rounds : (threads n : ℕ) → All (λ t. t ≤ threads) (rounds_of threads n)
+turns_of_rounds threads zero = λ k e below. absurd (omega (arith, below))
+turns_of_rounds threads (suc n) = All-append (λ t. t ≤ threads) (round_of threads) (rounds_of threads n) (turns_of_round threads) (turns_of_rounds threads n)
+
+turns_of_plan : (d : Lines) (plan : Plan) → IsPlan d plan → All (λ t. t ≤ length d.threads) (turns_of (length d.threads) plan)
+turns_of_plan d Idle is = λ k e below. absurd (omega (arith, below))
+turns_of_plan d (Rounds n) is = turns_of_rounds (length d.threads) n
+turns_of_plan d (Schedule items) is = turns_of_items (length d.threads) items is.0
 
 actor_declared : (d : Lines) (n : ℕ) → n ≤ length d.threads → IsActor d n
 actor_declared d zero below = inl refl
 actor_declared d (suc t) below = inr (inr (grind (arith, nat_tests, below)))
 
-pub entries_of_run : (s : ScenarioParts) → IsScenario s → (h : List Entry) → IsRun s.lines s.programs (turns_of (length s.lines.threads) s.plan) h → All (IsEntry s.lines) h
+pub entries_of_run : (s : ScenarioParts) → CanRun s → (h : List Entry) → IsRun s.lines s.programs (turns_of (length s.lines.threads) s.plan) h → All (IsEntry s.lines) h
 entries_of_run s is h run = λ k e below. (
-  actor_declared s.lines _ (actors_of_turns (λ t. t ≤ length s.lines.threads) (start_running s.lines s.programs) (turns_of (length s.lines.threads) s.plan) h (turns_of_scenario s is) run.turned k e below),
+  actor_declared s.lines _ (actors_of_turns (λ t. t ≤ length s.lines.threads) (start_running s.lines s.programs) (turns_of (length s.lines.threads) s.plan) h (turns_of_plan s.lines s.plan is.plan) run.turned k e below),
   names_of_legal s.lines (start s.lines) h (record { pairs = refl; completions = refl }) run.legal k e below,
 )

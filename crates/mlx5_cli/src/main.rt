@@ -2,7 +2,10 @@
 //! its standard streams.
 #![tactic(auto)]
 
+mod command;
 mod history;
+mod layouts;
+mod line;
 mod reading;
 mod run;
 mod status;

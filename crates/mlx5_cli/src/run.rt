@@ -1,12 +1,16 @@
 //! The commands, over a source and two sinks.
-ghost use Rattle.std.specs.Prelude.{◌≡◌, ◌≢◌, IfErr, map, string_bytes};
+ghost use Rattle.std.specs.Prelude.{◌≡◌, ◌≢◌, IfOk, IfErr};
 ghost use Rattle.mlx5_cli.specs.Status.{line_of};
-ghost use Rattle.mlx5_cli.specs.Run.{asks_for_run as asks, call, Says, status_of, Answers, Tells};
+ghost use Rattle.mlx5_cli.specs.Making.{MakesHistory, Makes, Stops, StopsRun};
+ghost use Rattle.mlx5_cli.specs.Run.{call, Says, status_of, Answers, Tells};
 
-use crate::history::{Refusal, history_of};
-use crate::reading::{ReadError, read_all};
+use crate::command::{Command, command_of};
+use crate::history::history_of;
+use crate::layouts::layout_lines;
+use crate::reading::{ReadError, TEXT_LIMIT, read_all};
 use crate::status::Status;
 use byte_streams::{Sink, Source, write_all};
+use scenario_text::{LimitName, ScenarioFault};
 use std::alloc::Global;
 
 impl From<ReadError> for Status {
@@ -18,31 +22,35 @@ impl From<ReadError> for Status {
     fn from(error: ReadError) -> Status {
         match error {
             ReadError::Failed => Status::ReadFault,
-            ReadError::TooLong => Status::Malformed,
+            ReadError::TooLong => Status::Limit {
+                name: LimitName::Text,
+                value: TEXT_LIMIT as u64 + 1,
+            },
             ReadError::NoMemory => Status::NoMemory,
         }
     }
 }
 
-impl From<Refusal> for Status {
+impl From<ScenarioFault> for Status {
     ghost use Rattle.std.specs.Prelude.{◌≡◌};
-    ghost use Rattle.mlx5_cli.specs.Status.{status_of_refused};
+    ghost use Rattle.mlx5_cli.specs.Status.{status_of_fault};
 
-    ghost from_gives = { λ e s. s ≡ status_of_refused e };
+    ghost from_gives = { λ e s. s ≡ status_of_fault e };
 
-    fn from(refusal: Refusal) -> Status {
-        match refusal {
-            Refusal::NotBuilt => Status::Malformed,
-            Refusal::NoMemory => Status::NoMemory,
+    fn from(fault: ScenarioFault) -> Status {
+        match fault {
+            ScenarioFault::Malformed { line, why } => Status::Malformed { line, rule: why },
+            ScenarioFault::Limit { name, value } => Status::Limit { name, value },
+            ScenarioFault::NoMemory => Status::NoMemory,
         }
     }
 }
 
 /// Does what the words after the program's name ask for, and gives the status.
 ///
-/// The one form is `run`: it reads a scenario from `source` and writes the history of its run to
-/// `out`, which gets no byte before the whole text is made. The line of any other status goes to
-/// `err`; a failed write there changes no status.
+/// `run` reads a scenario from `source` and writes the history of its run to `out`; `layout NAME`
+/// reads nothing and writes the rows of a layout. `out` gets no byte before the whole text is made.
+/// The line of a status other than `Done` goes to `err`; a failed write there changes no status.
 #[tactic(auto, using(crate::proofs::Exactly::answers))]
 pub fn run_plain<S: Source, K: Sink, E: Sink>(
     alloc: Global,
@@ -69,10 +77,10 @@ pub fn run_plain<S: Source, K: Sink, E: Sink>(
 pub fn say<E: Sink>(err: &mut E, status: Status)
     ensures { Tells (E.state err.old) (E.state err.new) (line_of status) }
 {
-    let _ = write_all(err, status.line().as_bytes());
+    let _ = write_all(err, status.line().as_str().as_bytes());
 }
 
-/// Reads, runs and writes, or stops with the status that ends the command.
+/// Makes the command's whole output and writes it, or stops with the status that ends the command.
 fn printed<S: Source, K: Sink>(
     alloc: Global,
     words: &[String],
@@ -83,20 +91,31 @@ fn printed<S: Source, K: Sink>(
         (K.state out.old) (K.state out.new)) (status_of result) }
     ensures stops { IfErr result (λ status. status ≢ Status.Done) }
 {
-    if !asks_for_run(words) {
+    let Some(command) = command_of(words) else {
         return Err(Status::Usage);
-    }
-    let text = read_all(alloc, source)?;
-    let history = history_of(alloc, text.as_slice())?;
-    write_all(out, history.as_slice()).map_err(|_| Status::WriteFault)
+    };
+    let output = output_of(alloc, command, source)?;
+    write_all(out, output.as_slice()).map_err(|_| Status::WriteFault)
 }
 
-/// Whether the words are `run` alone.
-fn asks_for_run(words: &[String]) -> bool
-    ensures { result ≡ asks (map string_bytes words.now) }
+/// The whole output of a command.
+fn output_of<S: Source>(alloc: Global, command: Command, source: &mut S) -> Result<Vec<u8>, Status>
+    ensures makes { IfOk result (λ output. Makes command (S.state source.old) (S.state source.new) output.items) }
+    ensures stops { IfErr result (Stops command (S.state source.old) (S.state source.new)) }
 {
-    match words {
-        [word] => word.as_str() == "run",
-        _ => false,
+    match command {
+        Command::Run => history_read(alloc, source),
+        Command::Layout(layout) => layout_lines(alloc, layout).map_err(|_| Status::NoMemory),
     }
+}
+
+/// The history of a run of the scenario that the source gives.
+#[tactic(auto, using(crate::proofs::Refusing::stops_unread, crate::proofs::Refusing::stops_refused))]
+fn history_read<S: Source>(alloc: Global, source: &mut S) -> Result<Vec<u8>, Status>
+    ensures makes { IfOk result (λ history. MakesHistory (S.state source.old) (S.state source.new) history.items) }
+    ensures stops { IfErr result (StopsRun (S.state source.old) (S.state source.new)) }
+{
+    let text = read_all(alloc, source)?;
+    let history = history_of(alloc, text.as_slice())?;
+    Ok(history)
 }

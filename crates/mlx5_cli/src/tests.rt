@@ -4,6 +4,7 @@ use crate::run::run_plain;
 use crate::status::Status;
 use crate::words::words_after_name;
 use byte_streams::{Failed, Sink, Source, StreamSink, StreamSource, TextSink, TextSource};
+use scenario_text::{LimitName, TextRule};
 use std::alloc::AllocError;
 use std::env::{Env, FillError};
 use std::io;
@@ -42,6 +43,24 @@ const PRINTED: Answer = Answer {
     line: "",
 };
 
+const NOT_BUILT_YET: Status = Status::Malformed {
+    line: 0,
+    rule: TextRule::NotBuilt,
+};
+
+const TEXT_TOO_LONG: Status = Status::Limit {
+    name: LimitName::Text,
+    value: 4_194_305,
+};
+
+const REMOTE_ADDRESS_ROWS: &str = "addr 0 64\nrkey 64 32\nreserved 96 32\n";
+
+const ROWS_PRINTED: Answer = Answer {
+    status: Status::Done,
+    output: REMOTE_ADDRESS_ROWS,
+    line: "",
+};
+
 const USAGE: Answer = Answer {
     status: Status::Usage,
     output: "",
@@ -49,7 +68,7 @@ const USAGE: Answer = Answer {
 };
 
 const NOT_BUILT: Answer = Answer {
-    status: Status::Malformed,
+    status: NOT_BUILT_YET,
     output: "",
     line: "mlx5: line 0: not built\n",
 };
@@ -83,13 +102,20 @@ fn expect<R: Abort + AllocGlobal>(
 
 #[test]
 fn words_that_ask_for_nothing(rt: HostRuntime) -> Result<(), Fail> {
-    let refused: [&[&str]; 6] = [
+    let refused: [&[&str]; 13] = [
         &[],
         &[""],
         &["Run"],
         &["runs"],
         &["run", "run"],
+        &["run", "raddr"],
         &["threads"],
+        &["layout"],
+        &["layout", ""],
+        &["layout", "foo"],
+        &["layout", "Raddr"],
+        &["layout", "cqe", "extra"],
+        &["raddr"],
     ];
     for texts in refused {
         let mut source = TextSource::new(b"");
@@ -121,6 +147,39 @@ fn the_first_scenario(rt: HostRuntime) -> Result<(), Fail> {
         out.step = step;
         expect(&rt, &["run"], &mut source, &mut out, &PRINTED)?;
         assert_eq!(rt; source.rest.len(), 0);
+    }
+    Ok(())
+}
+
+#[test]
+fn the_rows_of_a_layout(rt: HostRuntime) -> Result<(), Fail> {
+    for step in [1, 2, 64] {
+        let mut source = TextSource::new(SCENARIO);
+        let mut out = TextSink::new(rt.alloc());
+        out.step = step;
+        let words = ["layout", "raddr"];
+        expect(&rt, &words, &mut source, &mut out, &ROWS_PRINTED)?;
+        assert_eq!(rt; source.calls, 0);
+    }
+    Ok(())
+}
+
+#[test]
+fn rows_of_which_a_write_fails(rt: HostRuntime) -> Result<(), Fail> {
+    for call in 0..REMOTE_ADDRESS_ROWS.len() {
+        let failing = [call as u64];
+        let mut source = TextSource::new(b"");
+        let mut out = TextSink::new(rt.alloc());
+        out.step = 1;
+        out.failing = &failing;
+        let answer = Answer {
+            status: Status::WriteFault,
+            output: REMOTE_ADDRESS_ROWS.get(..call).unwrap_or("none"),
+            line: "mlx5: write fault\n",
+        };
+        let words = ["layout", "raddr"];
+        expect(&rt, &words, &mut source, &mut out, &answer)?;
+        assert_eq!(rt; source.calls, 0);
     }
     Ok(())
 }
@@ -196,7 +255,12 @@ impl Source for Repeated {
 fn the_limit_of_a_text(rt: HostRuntime) -> Result<(), Fail> {
     let mut words = Vec::new(rt.alloc());
     words.push(String::from_str(rt.alloc(), "run")?)?;
-    for (length, left) in [(4_194_304, 0), (4_194_305, 0), (4_194_306, 1)] {
+    let texts = [
+        (4_194_304, 0, NOT_BUILT_YET),
+        (4_194_305, 0, TEXT_TOO_LONG),
+        (4_194_306, 1, TEXT_TOO_LONG),
+    ];
+    for (length, left, expected) in texts {
         let mut source = Repeated {
             left: length,
             calls: 0,
@@ -210,7 +274,8 @@ fn the_limit_of_a_text(rt: HostRuntime) -> Result<(), Fail> {
             &mut out,
             &mut err,
         );
-        assert_eq!(rt; status, Status::Malformed);
+        assert_eq!(rt; status, expected);
+        assert!(rt; err.written.as_slice() == expected.line().as_str().as_bytes());
         assert_eq!(rt; source.left, left);
         assert_eq!(rt; source.calls, 1025);
     }
@@ -244,8 +309,8 @@ fn numbers_of_statuses(rt: HostRuntime) {
         (Status::Done, 0),
         (Status::Illegal, 1),
         (Status::Usage, 2),
-        (Status::Malformed, 3),
-        (Status::Limit, 4),
+        (NOT_BUILT_YET, 3),
+        (TEXT_TOO_LONG, 4),
         (Status::ReadFault, 5),
         (Status::WriteFault, 6),
         (Status::SpawnFault, 7),
@@ -254,6 +319,27 @@ fn numbers_of_statuses(rt: HostRuntime) {
     for (status, number) in statuses {
         assert_eq!(rt; status.number(), number);
     }
+}
+
+#[test]
+fn lines_with_numbers(rt: HostRuntime) {
+    let malformed = Status::Malformed {
+        line: u32::MAX,
+        rule: TextRule::NotBuilt,
+    };
+    assert_eq!(rt;
+        malformed.line().as_str(),
+        "mlx5: line 4294967295: not built\n"
+    );
+    assert_eq!(rt; TEXT_TOO_LONG.line().as_str(), "mlx5: limit text 4194305\n");
+    let limit = Status::Limit {
+        name: LimitName::Immediate,
+        value: u64::MAX,
+    };
+    assert_eq!(rt;
+        limit.line().as_str(),
+        "mlx5: limit immediate 18446744073709551615\n"
+    );
 }
 
 /// A stream that can do nothing.
