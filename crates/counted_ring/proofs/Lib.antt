@@ -1,3 +1,15 @@
 pub mod Parts
 pub mod DeviceTurns
 pub mod PosterTurns
+pub mod Slots
+pub mod Requests
+pub mod Shape
+pub mod Tied
+pub mod Moved
+pub mod OneMore
+pub mod NextWords
+pub mod PosterStep
+pub mod RetirerStep
+pub mod DeviceStep
+pub mod Asking
+pub mod Law

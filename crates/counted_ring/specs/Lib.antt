@@ -11,3 +11,4 @@ pub mod DeviceView
 pub mod DeviceInside
 pub mod PosterView
 pub mod PosterInside
+pub mod Law

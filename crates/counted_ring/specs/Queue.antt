@@ -108,14 +108,14 @@ after_event place q (Took words) = record { requests = q.requests; next = q.next
 abbrev pub IsLegal : WqPlace → Queue → List WqEvent → Type 0
 IsLegal place q events = Follows (MayHappen place) (after_event place) q events
 
--- Of which requests pollers speak: a counter is that of a completion, so of a request that was taken and not retired; a receive's are looked up in order; and requests are retired in order, after they were taken.
+-- Of which requests pollers speak: a counter is that of a completion, so of a request that was taken and not retired, and those of receives are looked up in order.
 abbrev pub MayAsk : WqPlace → Queue → WqEvent → Type 0
 MayAsk place q (Wrote words id) = Unit {0}
 MayAsk place q (Full head tail) = Unit {0}
 MayAsk place q Rang = Unit {0}
 MayAsk place q (Named counter id) = (n : ℕ) × IsTaken q counter n
 MayAsk place q (Found counter id end) = is_send place ≡ false → (0 < end) × IsTaken q counter (end - 1)
-MayAsk place q (Retired end) = (q.retired < end) × (end ≤ q.taken)
+MayAsk place q (Retired end) = Unit {0}
 MayAsk place q (Counted ready passes) = Unit {0}
 MayAsk place q (Took words) = Unit {0}
 

@@ -1,5 +1,5 @@
 -- The rule of the retirer, over its own operations on the queue's words.
-use Rattle.std.specs.Prelude.{ℕ, ◌≡◌, ◌+◌, ◌%◌, ◌^◌, ◌<◌, ◌≤◌, false, Option, Some, None, if◌then◌else◌}
+use Rattle.std.specs.Prelude.{ℕ, ◌≡◌, ◌+◌, ◌%◌, ◌^◌, ◌<◌, ◌≤◌, ◌⊎◌, false, Option, Some, None, if◌then◌else◌}
 use Rattle.bus_core.specs.declared.operation.BusEntry.{BusEntry}
 use Rattle.bus_core.specs.Operation.{IsLoad, IsStore, loaded}
 use Rattle.counted_ring.specs.declared.place.WqPlace.{WqPlace}
@@ -28,17 +28,18 @@ pub record MayRetire (place : WqPlace) (r : Retirer) (end : ℕ) (e : BusEntry) 
   pub one : is_send place ≡ false → end ≡ r.tail + 1
   pub store : IsStore place.tail end e
 
--- A lookup loads the id word of the counter's block and, in a send queue, its head word.
-abbrev pub MayLookup : WqPlace → ℕ → BusEntry → Type 0
-MayLookup place counter e = IsLoad (id_at place counter) e
+-- A lookup loads the id word of the counter's block and, in a send queue, its head word. It goes on from the last end that was found, or goes back to the tail where what was found is dropped.
+pub record MayLookup (place : WqPlace) (r : Retirer) (counter from : ℕ) (e : BusEntry) : Type 0 where
+  pub follows : (from ≡ r.found) ⊎ (from ≡ r.tail)
+  pub load : IsLoad (id_at place counter) e
 
-abbrev pub after_lookup : WqPlace → Retirer → ℕ → BusEntry → Retirer
-after_lookup place r counter e =
-    if is_send place then record { tail = r.tail; found = r.found; asked = Some (record { counter = counter; id = loaded e }) }
-    else record { tail = r.tail; found = r.found + 1; asked = None }
+abbrev pub after_lookup : WqPlace → Retirer → ℕ → ℕ → BusEntry → Retirer
+after_lookup place r counter from e =
+    if is_send place then record { tail = r.tail; found = from; asked = Some (record { counter = counter; id = loaded e }) }
+    else record { tail = r.tail; found = from + 1; asked = None }
 
-abbrev pub lookup_says : WqPlace → Retirer → ℕ → BusEntry → Option WqEvent
-lookup_says place r counter e = if is_send place then Some (Named counter (loaded e)) else Some (Found counter (loaded e) (r.found + 1))
+abbrev pub lookup_says : WqPlace → ℕ → ℕ → BusEntry → Option WqEvent
+lookup_says place counter from e = if is_send place then Some (Named counter (loaded e)) else Some (Found counter (loaded e) (from + 1))
 
 -- one more than the head word that was loaded
 abbrev pub end_after : BusEntry → ℕ

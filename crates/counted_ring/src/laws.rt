@@ -1,0 +1,16 @@
+//! What holds of every trace of a send or receive queue.
+ghost use Rattle.std.specs.Prelude.{ℕ, List};
+ghost use Rattle.bus_core.specs.Mark.{Marked};
+ghost use Rattle.bus_core.specs.Trace.{Memory};
+ghost use Rattle.counted_ring.specs.Law.{IsRun, history};
+ghost use Rattle.counted_ring.specs.Mark.{WqMark};
+ghost use Rattle.counted_ring.specs.Queue.{IsLegal, empty_queue};
+ghost use Rattle.counted_ring.specs.declared.place.WqPlace.{WqPlace};
+
+/// In every consistent trace whose users keep their rules, while nobody else writes the queue's words
+/// and the retirer looks up what was taken, what the marked operations say is, in the trace's order,
+/// a legal history of a list of requests.
+pub fn stands()
+    ensures { (place : WqPlace) (index : ℕ) (start : Memory) (trace : List (Marked WqMark)) →
+        IsRun place index start trace → IsLegal place (empty_queue index) (history place index trace) }
+{}
