@@ -21,6 +21,7 @@ use Rattle.counted_ring.specs.DeviceView.{MayDeliver, after_deliver, delivered}
 use Rattle.counted_ring.proofs.Slots.{shown_is}
 use Rattle.counted_ring.proofs.Requests.{request_of, span_of}
 use Rattle.counted_ring.proofs.Shape.{product_some, span_some, rises, rises_by, last_index, window}
+use Rattle.counted_ring.proofs.Orders.{order_taken}
 use Rattle.counted_ring.proofs.Tied.{Tied, Tied_kept, Tied_device, Goes, Reads, DeviceFits}
 use Rattle.counted_ring.proofs.Moved.{PosterFits_moved, RetirerFits_moved}
 
@@ -39,9 +40,8 @@ module _ (place : WqPlace) (m : Memory) (p : Poster) (r : Retirer) (d : WqReader
 
     tied_taken : DeviceFits after d' → Tied place m p r d' after
     tied_taken fits' =
-        let s = t.shape in
         record {
-          shape = record { retired = omega (arith, s.retired); taken = omega (arith, rung); rung = s.rung; bound = s.bound; few = s.few; low = s.low; spaced = s.spaced; whole = s.whole };
+          shape = record { order = order_taken place q t.shape.order rung; few = t.shape.few; low = t.shape.low; whole = t.shape.whole };
           tail = t.tail;
           recorded = t.recorded;
           stored = λ n low high. t.stored n low high;
@@ -57,20 +57,20 @@ module _ (place : WqPlace) (m : Memory) (p : Poster) (r : Retirer) (d : WqReader
   -- the record shows all that was rung
   shown_all : (word : ℕ) → word ≡ m place.dbr → shown d.next word ≡ index_of q q.rung - index_of q q.taken
   shown_all word is =
-      let s = t.shape in
+      let s = t.shape.order in
       let low = rises place q s q.taken q.rung s.taken s.rung in
       let first = rises place q s q.retired q.taken s.retired (omega (arith, s.taken, s.rung)) in
       let high = rises place q s q.rung (length q.requests) s.rung (omega arith) in
       let next = fits.next_is in
       let near : index_of q q.rung < d.next + 2 ^ 16 = omega (arith, next, first, high, last_index place q s, window place q s ok, ok.few_blocks) in
-      let small : d.next < 2 ^ 63 = omega (arith, next, low, high, last_index place q s, s.low) in
+      let small : d.next < 2 ^ 63 = omega (arith, next, low, high, last_index place q s, t.shape.low) in
       omega (arith, next, shown_is d.next (index_of q q.rung) word (omega (arith, next, low)) near small (is ∙ t.recorded))
 
   all_ready : (word : ℕ) → word ≡ m place.dbr → d.next + shown d.next word ≡ index_of q q.rung
-  all_ready word is = omega (arith, fits.next_is, shown_all word is, rises place q t.shape q.taken q.rung t.shape.taken t.shape.rung)
+  all_ready word is = omega (arith, fits.next_is, shown_all word is, rises place q t.shape.order q.taken q.rung t.shape.order.taken t.shape.order.rung)
 
   recorded_fits : (word register : ℕ) → word ≡ m place.dbr → d.words ≡ [] → DeviceFits q (record { next = d.next; ready = shown d.next word; register = register; words = d.words })
-  recorded_fits word register is between = record { seen = q.rung; low = t.shape.taken; high = omega arith; next_is = fits.next_is; ready_is = all_ready word is; words = inl between }
+  recorded_fits word register is between = record { seen = q.rung; low = t.shape.order.taken; high = omega arith; next_is = fits.next_is; ready_is = all_ready word is; words = inl between }
 
   -- blocks that are shown are those of requests
   is_seen : (seen ready : ℕ) → q.taken ≤ seen → d.next + ready ≡ index_of q seen → 0 < ready → q.taken < seen
@@ -86,7 +86,7 @@ module _ (place : WqPlace) (m : Memory) (p : Poster) (r : Retirer) (d : WqReader
     Tied_device place m p r d (record { next = d.next; ready = shown d.next word; register = d.register; words = d.words }) q (recorded_fits word d.register is between) t,
   )
   counted true word is between receive shows =
-      let s = t.shape in
+      let s = t.shape.order in
       let ready = all_ready word is in
       let rung : q.taken < q.rung = is_seen q.rung (shown d.next word) s.taken ready (shows refl) in
       let one : span_of place q q.taken ≡ 1 = rw (receive refl) refl in
@@ -101,7 +101,7 @@ module _ (place : WqPlace) (m : Memory) (p : Poster) (r : Retirer) (d : WqReader
     shows = is_seen fits.seen d.ready fits.low fits.ready_is ready
 
     inside : q.taken < length q.requests
-    inside = omega (arith, shows, fits.high, t.shape.rung)
+    inside = omega (arith, shows, fits.high, t.shape.order.rung)
 
     abbrev entry : List ℕ
     entry = (request_of q q.taken).words
@@ -120,14 +120,14 @@ module _ (place : WqPlace) (m : Memory) (p : Poster) (r : Retirer) (d : WqReader
 
     -- its blocks were shown
     spanned : span_of place q q.taken ≤ d.ready
-    spanned = omega (arith, rises_by place q t.shape q.taken fits.seen shows (omega (arith, fits.high, t.shape.rung)), fits.next_is, fits.ready_is)
+    spanned = omega (arith, rises_by place q t.shape.order q.taken fits.seen shows (omega (arith, fits.high, t.shape.order.rung)), fits.next_is, fits.ready_is)
 
     module _ (word : ℕ) (is : word ≡ m (word_at place d.next (length d.words))) where
       abbrev words : List ℕ
       words = d.words ++ word ∷ []
 
       word_is : word ≡ get_or entry (length d.words) 0
-      word_is = is ∙ (ap (λ i. m (word_at place i (length d.words))) fits.next_is ∙ (t.stored q.taken t.shape.retired inside).each (length d.words) reads.part)
+      word_is = is ∙ (ap (λ i. m (word_at place i (length d.words))) fits.next_is ∙ (t.stored q.taken t.shape.order.retired inside).each (length d.words) reads.part)
 
       long : length words ≡ length d.words + 1
       long = omega (arith, length-append d.words (word ∷ []))
@@ -147,7 +147,7 @@ module _ (place : WqPlace) (m : Memory) (p : Poster) (r : Retirer) (d : WqReader
           MayTake q words × Tied place m p r (record { next = d.next + reach place d.ready (slice_index words 0); ready = d.ready - reach place d.ready (slice_index words 0); register = d.register; words = [] }) (after_event place q (Took words))
       took full =
           let count : length d.words + 1 ≡ length entry = omega (arith, long, full, all_is) in
-          let next = t.shape.spaced q.taken inside in (
+          let next = t.shape.order.spaced q.taken inside in (
             record {
               rung = omega (arith, shows, fits.high);
               request = request_of q q.taken;

@@ -8,24 +8,22 @@ use Rattle.counted_ring.specs.Place.{IsPlace}
 use Rattle.counted_ring.specs.Mark.{WqMark, Post, Ring, Lookup, Count, Retire, Look, Record, Read, Foreign}
 use Rattle.counted_ring.specs.Queue.{Queue, WqEvent, empty_queue, IsLegal, MayAsk}
 use Rattle.counted_ring.specs.Device.{WqReader}
-use Rattle.counted_ring.specs.Law.{QueueHost, MayUse, after_use, used, queue_object, fresh_poster, fresh_retirer, fresh_host, fresh_device, IsStart, IsRun, history}
+use Rattle.counted_ring.specs.Law.{QueueHost, MayUse, after_use, used, queue_object, fresh_poster, fresh_finder, fresh_host, fresh_device, IsStart, IsRun, history}
 use Rattle.counted_ring.proofs.Asking.{Advances, Asked, law_of_asking}
+use Rattle.counted_ring.proofs.Users.{run_of_users}
+use Rattle.counted_ring.proofs.Orders.{empty_order}
 use Rattle.counted_ring.proofs.Tied.{Tied, Tied_kept, Goes, Asks}
 use Rattle.counted_ring.proofs.PosterStep.{poster_step}
 use Rattle.counted_ring.proofs.RetirerStep.{retirer_step}
 use Rattle.counted_ring.proofs.DeviceStep.{device_step}
 
 -- at the start the list is empty
-pub start_tied : (place : WqPlace) (index : ℕ) (start : Memory) → IsStart place index start → Tied place start (fresh_poster index) fresh_retirer (fresh_device index) (empty_queue index)
+pub start_tied : (place : WqPlace) (index : ℕ) (start : Memory) → IsStart place index start → Tied place start (fresh_poster index) fresh_finder.retirer (fresh_device index) (empty_queue index)
 start_tied place index start s = record {
   shape = record {
-    retired = omega arith;
-    taken = omega arith;
-    rung = omega arith;
-    bound = omega arith;
+    order = empty_order place index;
     few = omega arith;
     low = omega (arith, s.low);
-    spaced = λ n h. absurd (omega (arith, h));
     whole = λ n h. absurd (omega (arith, h));
   };
   tail = s.tail;
@@ -36,23 +34,23 @@ start_tied place index start s = record {
   device = record { seen = 0; low = omega arith; high = omega arith; next_is = refl; ready_is = omega arith; words = inl refl };
 }
 
-host_step : (place : WqPlace) (m : Memory) (h : QueueHost) (d : WqReader) (q : Queue) (mark : WqMark) (e : BusEntry) → IsPlace place → Tied place m h.poster h.retirer d q → Tells m e → MayUse place h mark e → Asks place q (used place h mark e) →
-    Goes place (after_entry m e) (after_use place h mark e).poster (after_use place h mark e).retirer d q (used place h mark e)
-host_step place m h d q Post e ok t tells may ask = poster_step place m h.poster h.retirer d q Post e ok t tells may
-host_step place m h d q Ring e ok t tells may ask = poster_step place m h.poster h.retirer d q Ring e ok t tells may
-host_step place m h d q (Lookup counter from) e ok t tells may ask = retirer_step place m h.poster h.retirer d q (Lookup counter from) e ok t tells may ask
-host_step place m h d q Count e ok t tells may ask = retirer_step place m h.poster h.retirer d q Count e ok t tells may ask
-host_step place m h d q (Retire end) e ok t tells may ask = retirer_step place m h.poster h.retirer d q (Retire end) e ok t tells may ask
-host_step place m h d q Look e ok t tells may ask = absurd may
-host_step place m h d q (Record passes) e ok t tells may ask = absurd may
-host_step place m h d q Read e ok t tells may ask = absurd may
-host_step place m h d q Foreign e ok t tells may ask = absurd may
+host_step : (place : WqPlace) (m : Memory) (h : QueueHost) (d : WqReader) (q : Queue) (mark : WqMark) (e : BusEntry) → IsPlace place → Tied place m h.poster h.finder.retirer d q → Tells m e → MayUse place h mark e → Asks place q (used place h mark e) →
+    Goes place (after_entry m e) (after_use place h mark e).poster (after_use place h mark e).finder.retirer d q (used place h mark e)
+host_step place m h d q Post e ok t tells may ask = poster_step place m h.poster h.finder.retirer d q Post e ok t tells may
+host_step place m h d q Ring e ok t tells may ask = poster_step place m h.poster h.finder.retirer d q Ring e ok t tells may
+host_step place m h d q (Lookup counter from) e ok t tells may ask = retirer_step place m h.poster h.finder.retirer d q (Lookup counter from) e ok t tells may.serves ask
+host_step place m h d q Count e ok t tells may ask = retirer_step place m h.poster h.finder.retirer d q Count e ok t tells may.serves ask
+host_step place m h d q (Retire end) e ok t tells may ask = retirer_step place m h.poster h.finder.retirer d q (Retire end) e ok t tells may.serves ask
+host_step place m h d q Look e ok t tells may ask = absurd may.serves
+host_step place m h d q (Record passes) e ok t tells may ask = absurd may.serves
+host_step place m h d q Read e ok t tells may ask = absurd may.serves
+host_step place m h d q Foreign e ok t tells may ask = absurd may.serves
 
 module _ (place : WqPlace) (ok : IsPlace place) where
   abbrev tied : Memory → WqReader → QueueHost → Queue → Type 0
-  tied m d h q = Tied place m h.poster h.retirer d q
+  tied m d h q = Tied place m h.poster h.finder.retirer d q
 
-  advances : (m : Memory) (h : QueueHost) (d : WqReader) (q : Queue) (said : Option WqEvent) → Goes place m h.poster h.retirer d q said → Advances (queue_object place) (MayAsk place) tied m d h q said
+  advances : (m : Memory) (h : QueueHost) (d : WqReader) (q : Queue) (said : Option WqEvent) → Goes place m h.poster h.finder.retirer d q said → Advances (queue_object place) (MayAsk place) tied m d h q said
   advances m h d q None g = g
   advances m h d q (Some event) g = g
 
@@ -63,8 +61,8 @@ module _ (place : WqPlace) (ok : IsPlace place) where
 pub run_is_legal : (place : WqPlace) (index : ℕ) (start : Memory) (trace : List (Marked WqMark)) → IsRun place index start trace → IsLegal place (empty_queue index) (history place index trace)
 run_is_legal place index start trace r =
     let ok = r.place_ok in
-    law_of_asking (queue_object place) (MayAsk place) (λ m d h q. Tied place m h.poster h.retirer d q)
-    (λ m m' d h q same t. Tied_kept place m m' h.poster h.retirer d q ok same t)
-    (λ m d h q x t tells may ask. advances place ok _ h _ q _ (device_step place m h.poster h.retirer d q x.mark x.entry ok t tells may))
-    (λ m d h q x t tells may ask. advances place ok _ _ d q _ (host_step place m h d q x.mark x.entry ok t tells may (asks place ok q _ ask)))
-    trace start (fresh_device index) (fresh_host index) (empty_queue index) (start_tied place index start r.start_ok) r.run r.asks
+    law_of_asking (queue_object place) (MayAsk place) (λ m d h q. Tied place m h.poster h.finder.retirer d q)
+    (λ m m' d h q same t. Tied_kept place m m' h.poster h.finder.retirer d q ok same t)
+    (λ m d h q x t tells may ask. advances place ok _ h _ q _ (device_step place m h.poster h.finder.retirer d q x.mark x.entry ok t tells may))
+    (λ m d h q x t tells may ask. advances place ok _ (after_use place h x.mark x.entry) d q _ (host_step place m h d q x.mark x.entry ok t tells may (asks place ok q _ ask)))
+    trace start (fresh_device index) (fresh_host index) (empty_queue index) (start_tied place index start r.start_ok) (run_of_users place index start trace r) r.asks

@@ -4,6 +4,7 @@ pub mod PosterTurns
 pub mod Slots
 pub mod Requests
 pub mod Shape
+pub mod Orders
 pub mod Tied
 pub mod Moved
 pub mod OneMore
@@ -11,5 +12,9 @@ pub mod NextWords
 pub mod PosterStep
 pub mod RetirerStep
 pub mod DeviceStep
+pub mod Users
 pub mod Asking
+pub mod Knowing
+pub mod Says
 pub mod Law
+pub mod Kept

@@ -6,8 +6,7 @@ use Rattle.std.proofs.lemmas.Bool.{cases_lt}
 use Rattle.std.proofs.lemmas.List.{get_or_push, get_or_append_left}
 use Rattle.bus_core.specs.Trace.{Memory}
 use Rattle.counted_ring.specs.declared.place.WqPlace.{WqPlace}
-use Rattle.counted_ring.specs.Place.{IsPlace, is_send, most, span, word_at, id_at, head_at}
-use Rattle.counted_ring.specs.Poster.{all_words}
+use Rattle.counted_ring.specs.Place.{IsPlace, is_send, most, span, word_at, id_at, head_at, all_words}
 use Rattle.counted_ring.specs.Queue.{Queue, index_of}
 use Rattle.counted_ring.proofs.Parts.{span_few}
 use Rattle.counted_ring.proofs.Slots.{words_differ, ids_differ, heads_differ, word_below, id_low, id_before_heads}
@@ -24,24 +23,24 @@ module _ (place : WqPlace) (m m' : Memory) (q : Queue) (ok : IsPlace place) (s :
   low = index_of q q.retired
 
   all_retired : q.retired ≤ length q.requests
-  all_retired = omega (arith, s.retired, s.taken, s.rung)
+  all_retired = omega (arith, s.order.retired, s.order.taken, s.order.rung)
 
   -- the next request's blocks are those of the window that no other has
   next_low : low ≤ q.next
-  next_low = omega (arith, rises place q s q.retired (length q.requests) all_retired (omega arith), last_index place q s)
+  next_low = omega (arith, rises place q s.order q.retired (length q.requests) all_retired (omega arith), last_index place q s.order)
 
   next_block : (k : ℕ) → k < most place * place.stride → q.next + k / place.stride < low + place.blocks
-  next_block k h = omega (arith, (div-lt_iff_lt-mul ok.some_stride).1 h, room_high place q s ok room)
+  next_block k h = omega (arith, (div-lt_iff_lt-mul ok.some_stride).1 h, room_high place q s.order ok room)
 
   next_first : q.next < low + place.blocks
-  next_first = omega (arith, room_high place q s ok room, span_some place 0, span_few place 0)
+  next_first = omega (arith, room_high place q s.order ok room, span_some place 0, span_few place 0)
 
   module _ (n : ℕ) (live : q.retired ≤ n) (inside : n < length q.requests) where
     index_low : low ≤ index_of q n
-    index_low = rises place q s q.retired n live (omega (arith, inside))
+    index_low = rises place q s.order q.retired n live (omega (arith, inside))
 
     index_high : index_of q n + span_of place q n ≤ q.next
-    index_high = omega (arith, rises_by place q s n (length q.requests) inside (omega arith), last_index place q s)
+    index_high = omega (arith, rises_by place q s.order n (length q.requests) inside (omega arith), last_index place q s.order)
 
     block_high : (k : ℕ) → k < length (request_of q n).words → k / place.stride < span_of place q n
     block_high k h = (div-lt_iff_lt-mul ok.some_stride).1 (omega (arith, h, s.whole n inside))
@@ -51,7 +50,7 @@ module _ (place : WqPlace) (m m' : Memory) (q : Queue) (ok : IsPlace place) (s :
 
     word_apart : (k l : ℕ) → k < most place * place.stride → l < length (request_of q n).words → word_at place q.next k ≢ word_at place (index_of q n) l
     word_apart k l hk hl = words_differ place ok low q.next (index_of q n) k l next_low (next_block k hk) index_low
-        (omega (arith, block_high l hl, index_high, window place q s ok)) (λ e. absurd (omega (arith, e, block_high l hl, index_high)))
+        (omega (arith, block_high l hl, index_high, window place q s.order ok)) (λ e. absurd (omega (arith, e, block_high l hl, index_high)))
 
     id_apart : id_at place q.next ≢ id_at place (index_of q n)
     id_apart = ids_differ place ok low q.next (index_of q n) next_low next_first index_low (omega (arith, index_before, next_first)) (λ e. omega (arith, e, index_before))

@@ -4,14 +4,15 @@ use Rattle.std.specs.Prelude.{slice_index}
 use Rattle.std.proofs.lemmas.Bool.{cases_Bool, cases_lt}
 use Rattle.bus_core.specs.Trace.{Memory}
 use Rattle.counted_ring.specs.declared.place.WqPlace.{WqPlace}
-use Rattle.counted_ring.specs.Place.{is_send, most, span, id_at, head_at, record_of}
+use Rattle.counted_ring.specs.Place.{is_send, most, span, id_at, head_at, record_of, all_words}
 use Rattle.counted_ring.specs.Queue.{Request, Queue, Wrote, index_of}
-use Rattle.counted_ring.specs.Poster.{Poster, all_words, posted_one}
+use Rattle.counted_ring.specs.Poster.{Poster, posted_one}
 use Rattle.counted_ring.specs.Retirer.{Retirer}
 use Rattle.counted_ring.specs.Device.{WqReader}
 use Rattle.counted_ring.proofs.Parts.{span_few}
-use Rattle.counted_ring.proofs.Requests.{request_of, span_of, more, added, count_more, request_before, request_last, index_more, index_next}
+use Rattle.counted_ring.proofs.Requests.{request_of, more, added, count_more, request_before, request_last, index_more}
 use Rattle.counted_ring.proofs.Shape.{Shape, last_index}
+use Rattle.counted_ring.proofs.Orders.{order_more}
 use Rattle.counted_ring.proofs.Tied.{Tied, Goes, Holds, Fills, IsAll, Stored}
 use Rattle.counted_ring.proofs.Moved.{RetirerFits_moved, DeviceFits_moved}
 
@@ -26,20 +27,6 @@ module _ (place : WqPlace) (m : Memory) (p : Poster) (r : Retirer) (d : WqReader
   count : length after.requests ≡ length q.requests + 1
   count = count_more place q words id
 
-  span_last : (n : ℕ) → n ≡ length q.requests → span_of place after n ≡ span place (slice_index words 0)
-  span_last n last = ap (λ (x : Request). span place (slice_index x.words 0)) (request_last place q words id n last)
-
-  spaced : (n : ℕ) → n < length after.requests → index_of after (n + 1) ≡ index_of after n + span_of place after n
-  spaced n inside = elim (cases_lt n (length q.requests)) [
-    | inl before ↦
-        let same = ap (λ (x : Request). span place (slice_index x.words 0)) (request_before place q words id n before) in
-        omega (arith, index_more place q words id (n + 1) (omega (arith, before)), index_more place q words id n (omega (arith, before)), same, t.shape.spaced n before)
-    | inr past ↦
-        let last : n ≡ length q.requests = omega (arith, past, inside, count) in
-        let here : index_of q n ≡ q.next = ap (index_of q) last ∙ last_index place q t.shape in
-        omega (arith, index_next place q words id (n + 1) (omega (arith, past)), index_more place q words id n (omega (arith, last)), here, span_last n last)
-  ]
-
   whole : (n : ℕ) → n < length after.requests → length (request_of after n).words ≡ all_words place (request_of after n).words
   whole n inside = elim (cases_lt n (length q.requests)) [
     | inl before ↦ subst (λ (x : Request). length x.words ≡ all_words place x.words) (sym (request_before place q words id n before)) (t.shape.whole n before)
@@ -47,18 +34,12 @@ module _ (place : WqPlace) (m : Memory) (p : Poster) (r : Retirer) (d : WqReader
   ]
 
   shape : Shape place after
-  shape =
-      let s = t.shape in
-      record {
-        retired = s.retired;
-        taken = s.taken;
-        rung = omega (arith, s.rung, count);
-        bound = omega (arith, count, fills.room);
-        few = omega (arith, count, fills.low);
-        low = omega (arith, fills.next_low, span_few place (slice_index words 0), most_few place);
-        spaced = spaced;
-        whole = whole;
-      }
+  shape = record {
+    order = order_more place q t.shape.order words id fills.room;
+    few = omega (arith, count, fills.low);
+    low = omega (arith, fills.next_low, span_few place (slice_index words 0), most_few place);
+    whole = whole;
+  }
 
   stored : Stored place m after
   stored n low inside = elim (cases_lt n (length q.requests)) [
@@ -67,15 +48,15 @@ module _ (place : WqPlace) (m : Memory) (p : Poster) (r : Retirer) (d : WqReader
         (subst (λ (i : ℕ). Holds place m i n (request_of q n)) (sym (index_more place q words id n (omega (arith, before)))) (t.stored n low before))
     | inr past ↦
         let last : n ≡ length q.requests = omega (arith, past, inside, count) in
-        let here : index_of after n ≡ q.next = index_more place q words id n (omega (arith, last)) ∙ (ap (index_of q) last ∙ last_index place q t.shape) in
+        let here : index_of after n ≡ q.next = index_more place q words id n (omega (arith, last)) ∙ (ap (index_of q) last ∙ last_index place q t.shape.order) in
         let holds : Holds place m q.next n (added place q words id) = record { each = fills.each; id = named; head = λ send. counted send ∙ sym last } in
         subst (λ (x : Request). Holds place m (index_of after n) n x) (sym (request_last place q words id n last)) (subst (λ (i : ℕ). Holds place m i n (added place q words id)) (sym here) holds)
   ]
 
   pub wrote : Goes place m (posted_one place p words) r d q (Some (Wrote words id))
   wrote =
-      let s = t.shape in (
-        fills.room,
+      let s = t.shape.order in (
+        record { room = fills.room; whole = all },
         record {
           shape = shape;
           tail = t.tail;

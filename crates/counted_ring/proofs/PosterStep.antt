@@ -6,15 +6,16 @@ use Rattle.bus_core.specs.Operation.{IsStore, loaded, stored}
 use Rattle.bus_core.specs.Trace.{Memory, after_entry, Tells}
 use Rattle.bus_core.proofs.Words.{elsewhere, load_keeps, load_tells, store_leaves}
 use Rattle.counted_ring.specs.declared.place.WqPlace.{WqPlace}
-use Rattle.counted_ring.specs.Place.{IsPlace, is_send, word_at, id_at, head_at, record_of, outstanding}
+use Rattle.counted_ring.specs.Place.{IsPlace, is_send, word_at, id_at, head_at, record_of, outstanding, all_words}
 use Rattle.counted_ring.specs.Queue.{Queue, Wrote, Full, Rang, after_event}
 use Rattle.counted_ring.specs.Mark.{WqMark, Post, Ring, Lookup, Count, Retire, Look, Record, Read, Foreign}
-use Rattle.counted_ring.specs.Poster.{Poster, Stage, Ready, Storing, Naming, Counting, Ringing, at_stage, all_words, has_room, posted_one, stage_with, MayPostAt, after_post_at, post_says_at, MayRingAt, after_ring_at, ring_says_at, IsRegisterStore}
+use Rattle.counted_ring.specs.Poster.{Poster, Stage, Ready, Storing, Naming, Counting, Ringing, at_stage, has_room, posted_one, stage_with, MayPostAt, after_post_at, post_says_at, MayRingAt, after_ring_at, ring_says_at, IsRegisterStore}
 use Rattle.counted_ring.specs.PosterView.{MayBring, after_bring, brought}
 use Rattle.counted_ring.specs.Retirer.{Retirer}
 use Rattle.counted_ring.specs.Device.{WqReader}
 use Rattle.counted_ring.proofs.Slots.{outstanding_is, word_below, id_low, id_below, id_before_heads, head_below}
 use Rattle.counted_ring.proofs.Shape.{last_index, most_fits}
+use Rattle.counted_ring.proofs.Orders.{order_rung}
 use Rattle.counted_ring.proofs.Tied.{Tied, Tied_kept, Tied_poster, Goes, Stored, Fills, IsPart, IsAll, Named, StageFits, PosterFits, SameEntries, entries_kept, Stored_kept}
 use Rattle.counted_ring.proofs.Moved.{DeviceFits_moved, RetirerFits_moved}
 use Rattle.counted_ring.proofs.OneMore.{wrote}
@@ -28,7 +29,7 @@ module _ (place : WqPlace) (m : Memory) (p : Poster) (r : Retirer) (d : WqReader
       let tail : word ≡ q.retired = is ∙ t.tail in
       let posted = t.poster.count in
       let near = ltb-true (outstanding p.count word) place.max_post test in
-      let far = outstanding_is p.count word (omega (arith, tail, posted, t.shape.retired, t.shape.taken, t.shape.rung)) count in
+      let far = outstanding_is p.count word (omega (arith, tail, posted, t.shape.order.retired, t.shape.order.taken, t.shape.order.rung)) count in
       Tied_poster place m p (at_stage p (Storing [])) r d q (record {
         count = posted;
         index = t.poster.index;
@@ -41,8 +42,8 @@ module _ (place : WqPlace) (m : Memory) (p : Poster) (r : Retirer) (d : WqReader
       let tail : word ≡ q.retired = is ∙ t.tail in
       let posted = t.poster.count in
       let wide = ltb-false (outstanding p.count word) place.max_post test in
-      let far = outstanding_is p.count word (omega (arith, tail, posted, t.shape.retired, t.shape.taken, t.shape.rung)) count in (
-        record { head_is = posted; tail_is = tail; full = omega (arith, wide, far, tail, posted, t.shape.bound) },
+      let far = outstanding_is p.count word (omega (arith, tail, posted, t.shape.order.retired, t.shape.order.taken, t.shape.order.rung)) count in (
+        record { head_is = posted; tail_is = tail; full = omega (arith, wide, far, tail, posted, t.shape.order.bound) },
         Tied_poster place m p (at_stage p Ready) r d q (record { count = posted; index = t.poster.index; stage = tt }) t,
       )
 
@@ -70,7 +71,7 @@ module _ (place : WqPlace) (m m' : Memory) (p : Poster) (r : Retirer) (d : WqRea
       room = fits.room;
       low = fits.low;
       next_low = fits.next_low;
-      each = each_more place ok words part m m' q.next word here other (omega (arith, most_fits place q t.shape ok fits.room)) fits.each;
+      each = each_more place ok words part m m' q.next word here other (omega (arith, most_fits place q t.shape.order ok fits.room)) fits.each;
     }
 
     stage_fits : StageFits place m' q (stage_with place more)
@@ -130,13 +131,13 @@ module _ (place : WqPlace) (m m' : Memory) (p : Poster) (r : Retirer) (d : WqRea
       let none : StageFits place m' after (cond (is_send place) Ringing Ready) = cond_both (is_send place) Ringing Ready (StageFits place m' after) (λ send. tt) (λ receive. tt) in (
         tt,
         record {
-          shape = record { retired = s.retired; taken = omega (arith, s.taken, s.rung); rung = omega arith; bound = s.bound; few = s.few; low = s.low; spaced = s.spaced; whole = s.whole };
+          shape = record { order = order_rung place q s.order; few = s.few; low = s.low; whole = s.whole };
           tail = other place.tail (λ e. omega (arith, e, ok.record_next)) ∙ t.tail;
-          recorded = here ∙ ap record_of (t.poster.index ∙ sym (last_index place q s));
+          recorded = here ∙ ap record_of (t.poster.index ∙ sym (last_index place q s.order));
           stored = λ n low high. Stored_kept place m m' same q t.stored n low high;
           poster = record { count = t.poster.count; index = t.poster.index; stage = none };
           retirer = RetirerFits_moved place q after refl (omega arith) (λ n h. refl) (λ n h. refl) r t.retirer;
-          device = DeviceFits_moved q after refl s.rung (λ n h. refl) (λ n h. refl) d t.device;
+          device = DeviceFits_moved q after refl s.order.rung (λ n h. refl) (λ n h. refl) d t.device;
         },
       )
 

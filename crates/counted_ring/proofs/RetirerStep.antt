@@ -17,13 +17,14 @@ use Rattle.counted_ring.specs.RetirerView.{MayServe, after_serve, served}
 use Rattle.counted_ring.specs.Device.{WqReader}
 use Rattle.counted_ring.proofs.Slots.{low_bits}
 use Rattle.counted_ring.proofs.Requests.{request_of}
+use Rattle.counted_ring.proofs.Orders.{order_retired}
 use Rattle.counted_ring.proofs.Tied.{Tied, Tied_kept, Tied_retirer, Goes, Asks, AskedFits, SameEntries, entries_kept, Stored_kept, PosterFits_kept}
 use Rattle.counted_ring.proofs.Moved.{PosterFits_moved, DeviceFits_moved}
 
 module _ (place : WqPlace) (m : Memory) (p : Poster) (r : Retirer) (d : WqReader) (q : Queue) (ok : IsPlace place) (t : Tied place m p r d q) where
   -- a request that was taken
   posted : (counter n : ℕ) → IsTaken q counter n → n < length q.requests
-  posted counter n h = omega (arith, h.taken, t.shape.taken, t.shape.rung)
+  posted counter n h = omega (arith, h.taken, t.shape.order.taken, t.shape.order.rung)
 
   -- the id word of a counter
   id_of : (counter n : ℕ) → IsTaken q counter n → m (id_at place counter) ≡ (request_of q n).id
@@ -35,7 +36,7 @@ module _ (place : WqPlace) (m : Memory) (p : Poster) (r : Retirer) (d : WqReader
   named counter n id h same = record { number = n; counted = h; request = request_of q n; found = slice_get-get_or q.requests n (record { index = 0; words = []; id = 0 }) (posted counter n h); id_is = same }
 
   from_low : (from : ℕ) → (from ≡ r.found) ⊎ (from ≡ r.tail) → from ≤ q.taken
-  from_low from h = elim h [ inl found ↦ omega (arith, found, t.retirer.found) | inr tail ↦ omega (arith, tail, t.retirer.tail, t.shape.retired) ]
+  from_low from h = elim h [ inl found ↦ omega (arith, found, t.retirer.found) | inr tail ↦ omega (arith, tail, t.retirer.tail, t.shape.order.retired) ]
 
   looked_up : (send : Bool) (counter from word : ℕ) → is_send place ≡ send → (from ≡ r.found) ⊎ (from ≡ r.tail) → word ≡ m (id_at place counter)
       → Asks place q (cond send (Some (queue.Named counter word)) (Some (queue.Found counter word (from + 1))))
@@ -81,7 +82,7 @@ module _ (place : WqPlace) (m : Memory) (p : Poster) (r : Retirer) (d : WqReader
         let after : Queue = after_event place q (queue.Retired end) in (
           (low, high),
           record {
-            shape = record { retired = high; taken = s.taken; rung = s.rung; bound = omega (arith, s.bound, low); few = s.few; low = s.low; spaced = s.spaced; whole = s.whole };
+            shape = record { order = order_retired place q s.order end low high; few = s.few; low = s.low; whole = s.whole };
             tail = here;
             recorded = other place.dbr (λ same. omega (arith, same, ok.record_next)) ∙ t.recorded;
             stored = λ n above below. Stored_kept place m m' same q t.stored n (omega (arith, low, above)) below;

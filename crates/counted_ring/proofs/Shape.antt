@@ -4,20 +4,23 @@ use Rattle.std.specs.Prelude.{slice_index}
 use Rattle.std.proofs.Math.Nat.{mul-le-mul_left, mul-suc}
 use Rattle.std.proofs.lemmas.Bool.{cases_Bool, cond_both}
 use Rattle.counted_ring.specs.declared.place.WqPlace.{WqPlace}
-use Rattle.counted_ring.specs.Place.{IsPlace, is_send, span, unit_blocks, most}
-use Rattle.counted_ring.specs.Poster.{all_words}
+use Rattle.counted_ring.specs.Place.{IsPlace, is_send, span, unit_blocks, most, all_words}
 use Rattle.counted_ring.specs.Queue.{Queue, index_of}
 use Rattle.counted_ring.proofs.Parts.{span_few}
 use Rattle.counted_ring.proofs.Requests.{request_of, span_of, index_past}
 
-pub record Shape (place : WqPlace) (q : Queue) : Type 0 where
+-- the counts stand in order, and each request begins where the one before it ends
+pub record Order (place : WqPlace) (q : Queue) : Type 0 where
   pub retired : q.retired ≤ q.taken
   pub taken : q.taken ≤ q.rung
   pub rung : q.rung ≤ length q.requests
   pub bound : length q.requests ≤ q.retired + place.max_post
+  pub spaced : (n : ℕ) → n < length q.requests → index_of q (n + 1) ≡ index_of q n + span_of place q n
+
+pub record Shape (place : WqPlace) (q : Queue) : Type 0 where
+  pub order : Order place q
   pub few : length q.requests ≤ 2 ^ 62
   pub low : q.next < 2 ^ 63
-  pub spaced : (n : ℕ) → n < length q.requests → index_of q (n + 1) ≡ index_of q n + span_of place q n
   pub whole : (n : ℕ) → n < length q.requests → length (request_of q n).words ≡ all_words place (request_of q n).words
 
 -- a product of numbers that are not 0
@@ -35,7 +38,7 @@ span_some place first = elim (cases_Bool (is_send place)) [
   | inr receive ↦ rw receive (omega arith)
 ]
 
-module _ (place : WqPlace) (q : Queue) (s : Shape place q) where
+module _ (place : WqPlace) (q : Queue) (s : Order place q) where
   -- two requests with so many between them
   record IsBetween (n m k : ℕ) : Type 0 where
     low : index_of q n ≤ index_of q m

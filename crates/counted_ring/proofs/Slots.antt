@@ -1,10 +1,10 @@
 -- Arithmetic of blocks, counters and records, and where a queue's words lie.
-use Rattle.std.proofs.Common.{◌≡◌, ◌≢◌, ℕ, ◌+◌, ◌-◌, ◌*◌, ◌/◌, ◌%◌, ◌^◌, ◌<◌, ◌≤◌, inl, inr, refl, ap, sym, arith, true}
+use Rattle.std.proofs.Common.{◌≡◌, ◌≢◌, ℕ, ◌+◌, ◌-◌, ◌*◌, ◌/◌, ◌%◌, ◌^◌, ◌<◌, ◌≤◌, inl, inr, refl, ap, sym, arith, leb, ltb, true, Option, Some, None}
 use Rattle.std.proofs.Math.Nat.{mod-lt, mul-le-mul_left, mul-suc, mod-mod_of_dvd, dvd_of_mod-eq-zero}
-use Rattle.std.proofs.lemmas.Bool.{and_from, or_left, or_right, le-leb, lt-ltb, eq-eqb, cases_lt, cases_Bool, cases_eq}
+use Rattle.std.proofs.lemmas.Bool.{and_from, and_parts, or_cases, leb-true, ltb-true, eqb-true, or_left, or_right, le-leb, lt-ltb, eq-eqb, cases_lt, cases_Bool, cases_eq}
 use Rattle.bus_core.proofs.Remainders.{remainders}
 use Rattle.counted_ring.specs.declared.place.WqPlace.{WqPlace}
-use Rattle.counted_ring.specs.Place.{IsPlace, is_send, word_at, id_at, head_at, record_of, shown, outstanding, is_in, touches}
+use Rattle.counted_ring.specs.Place.{IsPlace, is_in, is_register, is_send, word_at, id_at, head_at, record_of, shown, outstanding, is_in, touches}
 
 -- the blocks of one window have places of their own
 pub blocks_differ : (low a b blocks : ℕ) → low ≤ a → a < low + blocks → low ≤ b → b < low + blocks → a ≢ b → a % blocks ≢ b % blocks
@@ -117,3 +117,46 @@ touches_tail place = or_left _ _ (or_left _ _ (or_right _ _ (eq-eqb place.tail p
 
 pub touches_record : (place : WqPlace) → touches place place.dbr ≡ true
 touches_record place = or_left _ _ (or_right _ _ (eq-eqb place.dbr place.dbr refl))
+
+register_here : (reg : Option ℕ) (a : ℕ) → reg ≡ Some a → is_register reg a ≡ true
+register_here None a same = absurd cc
+register_here (Some r) a same = eq-eqb a r (let is : r ≡ a = cc in sym is)
+
+pub touches_register : (place : WqPlace) (a : ℕ) → place.reg ≡ Some a → touches place a ≡ true
+touches_register place a same = or_right _ _ (register_here place.reg a same)
+
+-- the ranges of a queue's words
+pub data Touches (place : WqPlace) (a : ℕ) : Type 0 where
+  in_ring : place.ring ≤ a → a < place.ring + place.stride * place.blocks → Touches place a
+  in_ids : place.ids ≤ a → a < place.ids + place.blocks → Touches place a
+  in_heads : is_send place ≡ true → place.heads ≤ a → a < place.heads + place.blocks → Touches place a
+  at_tail : a ≡ place.tail → Touches place a
+  at_record : a ≡ place.dbr → Touches place a
+  at_register : place.reg ≡ Some a → Touches place a
+
+in_range : (from count a : ℕ) → is_in from count a ≡ true → (from ≤ a) × (a < from + count)
+in_range from count a h = let both = and_parts (leb from a) (ltb a (from + count)) h in (leb-true from a both.0, ltb-true a (from + count) both.1)
+
+is_that_register : (reg : Option ℕ) (a : ℕ) → is_register reg a ≡ true → reg ≡ Some a
+is_that_register None a h = absurd cc
+is_that_register (Some r) a h = ap (λ x. Some x) (sym (eqb-true a r h))
+
+pub touched : (place : WqPlace) (a : ℕ) → touches place a ≡ true → Touches place a
+touched place a h = elim (or_cases _ _ h) [
+  | inl not_register ↦ elim (or_cases _ _ not_register) [
+    | inl not_record ↦ elim (or_cases _ _ not_record) [
+      | inl not_tail ↦ elim (or_cases _ _ not_tail) [
+        | inl blocks ↦ elim (or_cases _ _ blocks) [
+          | inl ring ↦ let r = in_range place.ring (place.stride * place.blocks) a ring in in_ring r.0 r.1
+          | inr ids ↦ let r = in_range place.ids place.blocks a ids in in_ids r.0 r.1
+        ]
+        | inr heads ↦
+            let both = and_parts (is_send place) (is_in place.heads place.blocks a) heads in
+            let r = in_range place.heads place.blocks a both.1 in in_heads both.0 r.0 r.1
+      ]
+      | inr tail ↦ at_tail (eqb-true a place.tail tail)
+    ]
+    | inr dbr ↦ at_record (eqb-true a place.dbr dbr)
+  ]
+  | inr register ↦ at_register (is_that_register place.reg a register)
+]

@@ -2,10 +2,10 @@
 use Rattle.std.proofs.Common.{◌≡◌, ◌⊎◌, ℕ, ◌+◌, ◌%◌, ◌^◌, ◌<◌, ◌≤◌, ◌∙◌, arith, true, List, [], length, get_or, take, Option, Some, None}
 use Rattle.bus_core.specs.Trace.{Memory}
 use Rattle.counted_ring.specs.declared.place.WqPlace.{WqPlace}
-use Rattle.counted_ring.specs.Place.{IsPlace, is_send, word_at, id_at, head_at, record_of, touches}
+use Rattle.counted_ring.specs.Place.{IsPlace, is_send, word_at, id_at, head_at, record_of, touches, all_words}
 use Rattle.counted_ring.specs.Queue.{Request, Queue, WqEvent, index_of, MayHappen, after_event, MayAsk}
-use Rattle.counted_ring.specs.Poster.{Poster, Stage, Ready, Storing, Naming, Counting, Ringing, all_words}
-use Rattle.counted_ring.specs.Retirer.{Asked, Retirer}
+use Rattle.counted_ring.specs.Poster.{Poster, Stage, Ready, Storing, Naming, Counting, Ringing}
+use Rattle.counted_ring.specs.Retirer.{Asked, Retirer, forgotten_side}
 use Rattle.counted_ring.specs.Device.{WqReader}
 use Rattle.counted_ring.proofs.Slots.{word_below, id_low, id_below, head_below, touches_word, touches_id, touches_head, touches_tail, touches_record}
 use Rattle.counted_ring.proofs.Requests.{request_of}
@@ -163,3 +163,7 @@ Tied_retirer place m p r r' d q fits t = record { shape = t.shape; tail = t.tail
 
 pub Tied_device : (place : WqPlace) (m : Memory) (p : Poster) (r : Retirer) (d d' : WqReader) (q : Queue) → DeviceFits q d' → Tied place m p r d q → Tied place m p r d' q
 Tied_device place m p r d d' q fits t = record { shape = t.shape; tail = t.tail; recorded = t.recorded; stored = t.stored; poster = t.poster; retirer = t.retirer; device = fits }
+
+-- a retirer that drops what it found
+pub Tied_forgotten : (place : WqPlace) (m : Memory) (p : Poster) (r : Retirer) (d : WqReader) (q : Queue) → Tied place m p r d q → Tied place m p (forgotten_side r) d q
+Tied_forgotten place m p r d q t = Tied_retirer place m p r (forgotten_side r) d q (record { tail = t.retirer.tail; found = omega (arith, t.retirer.tail, t.shape.order.retired); asked = tt }) t

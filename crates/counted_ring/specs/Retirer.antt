@@ -21,7 +21,7 @@ abbrev pub MayCountFor : WqPlace → Option Asked → BusEntry → Type 0
 MayCountFor place None e = ⊥
 MayCountFor place (Some a) e = IsLoad (head_at place a.counter) e
 
--- A tail is an end that was found and not yet stored: for a send one more than a loaded head word, for a receive one more than the last tail.
+-- A tail is an end that was found and not yet stored: for a send one more than a loaded head word, for a receive one more than the last tail. Of those that were found it is the first; the retirer knows the last, and whoever retires gives the first.
 pub record MayRetire (place : WqPlace) (r : Retirer) (end : ℕ) (e : BusEntry) : Type 0 where
   pub later : r.tail < end
   pub found : end ≤ r.found
@@ -61,3 +61,9 @@ after_retire r end = record { tail = end; found = r.found; asked = None }
 -- what a retirer knows that has dropped a lookup, or goes back to the tail that it stored
 abbrev pub forgotten_side : Retirer → Retirer
 forgotten_side r = record { tail = r.tail; found = r.tail; asked = None }
+
+-- What a machine knows of its side may be less than the side's list tells: it has dropped a lookup, or gone back to its tail.
+pub record KnowsLess (k r : Retirer) : Type 0 where
+  pub tail : k.tail ≡ r.tail
+  pub found : (k.found ≡ r.found) ⊎ (k.found ≡ r.tail)
+  pub asked : (k.asked ≡ r.asked) ⊎ (k.asked ≡ None)
