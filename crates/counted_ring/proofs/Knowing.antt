@@ -6,6 +6,7 @@ use Rattle.counted_ring.specs.declared.place.WqPlace.{WqPlace}
 use Rattle.counted_ring.specs.Place.{is_send}
 use Rattle.counted_ring.specs.Mark.{WqMark, Post, Ring, Lookup, Count, Retire, Look, Record, Read, Foreign}
 use Rattle.counted_ring.specs.Retirer.{Asked, Retirer, KnowsLess, MayCountFor, count_says_for, forgotten_side}
+use Rattle.counted_ring.specs.Ends.{Finder, IsFirstEnd, MayFind}
 use Rattle.counted_ring.specs.RetirerView.{MayServe, after_serve, served}
 
 -- one operation, as a machine with this much knowledge sees it and as its list tells it
@@ -65,3 +66,7 @@ does_more place k r Look e h may = absurd may
 does_more place k r (Record passes) e h may = absurd may
 does_more place k r Read e h may = absurd may
 does_more place k r Foreign e h may = absurd may
+
+-- and it is the list's next operation where what is stored is the first end that was found
+pub finds_more : (place : WqPlace) (k : Retirer) (f : Finder) (mark : WqMark) (e : BusEntry) → KnowsLess k f.retirer → MayServe place k mark e → IsFirstEnd f.ends mark → MayFind place f mark e
+finds_more place k f mark e h may first = record { serves = (does_more place k f.retirer mark e h may).may; first = first }

@@ -2,11 +2,12 @@
 use Rattle.std.proofs.Common.{ℕ, inl, refl, arith, List, Option, Some, None}
 use Rattle.bus_core.specs.Mark.{Marked}
 use Rattle.bus_core.specs.Trace.{Memory, after_entry, Tells}
+use Rattle.bus_core.specs.TwoSides.{IsRunOf}
 use Rattle.bus_core.specs.declared.operation.BusEntry.{BusEntry}
 use Rattle.counted_ring.specs.declared.place.WqPlace.{WqPlace}
 use Rattle.counted_ring.specs.Place.{IsPlace}
 use Rattle.counted_ring.specs.Mark.{WqMark, Post, Ring, Lookup, Count, Retire, Look, Record, Read, Foreign}
-use Rattle.counted_ring.specs.Queue.{Queue, WqEvent, empty_queue, IsLegal, MayAsk}
+use Rattle.counted_ring.specs.Queue.{Queue, WqEvent, empty_queue, IsLegal, MayAsk, AsksInOrder}
 use Rattle.counted_ring.specs.Device.{WqReader}
 use Rattle.counted_ring.specs.Law.{QueueHost, MayUse, after_use, used, queue_object, fresh_poster, fresh_finder, fresh_host, fresh_device, IsStart, IsRun, history}
 use Rattle.counted_ring.proofs.Asking.{Advances, Asked, law_of_asking}
@@ -58,11 +59,15 @@ module _ (place : WqPlace) (ok : IsPlace place) where
   asks q None ask = ask
   asks q (Some event) ask = ask
 
-pub run_is_legal : (place : WqPlace) (index : ℕ) (start : Memory) (trace : List (Marked WqMark)) → IsRun place index start trace → IsLegal place (empty_queue index) (history place index trace)
-run_is_legal place index start trace r =
-    let ok = r.place_ok in
+-- of a run whose host's two users are one side
+pub sides_are_legal : (place : WqPlace) (index : ℕ) (start : Memory) (trace : List (Marked WqMark)) → IsPlace place → IsStart place index start → IsRunOf (queue_object place) (fresh_device index) (fresh_host index) start trace
+    → AsksInOrder place (empty_queue index) (history place index trace) → IsLegal place (empty_queue index) (history place index trace)
+sides_are_legal place index start trace ok begins run ask =
     law_of_asking (queue_object place) (MayAsk place) (λ m d h q. Tied place m h.poster h.finder.retirer d q)
     (λ m m' d h q same t. Tied_kept place m m' h.poster h.finder.retirer d q ok same t)
-    (λ m d h q x t tells may ask. advances place ok _ h _ q _ (device_step place m h.poster h.finder.retirer d q x.mark x.entry ok t tells may))
-    (λ m d h q x t tells may ask. advances place ok _ (after_use place h x.mark x.entry) d q _ (host_step place m h d q x.mark x.entry ok t tells may (asks place ok q _ ask)))
-    trace start (fresh_device index) (fresh_host index) (empty_queue index) (start_tied place index start r.start_ok) (run_of_users place index start trace r) r.asks
+    (λ m d h q x t tells may said. advances place ok _ h _ q _ (device_step place m h.poster h.finder.retirer d q x.mark x.entry ok t tells may))
+    (λ m d h q x t tells may said. advances place ok _ (after_use place h x.mark x.entry) d q _ (host_step place m h d q x.mark x.entry ok t tells may (asks place ok q _ said)))
+    trace start (fresh_device index) (fresh_host index) (empty_queue index) (start_tied place index start begins) run ask
+
+pub run_is_legal : (place : WqPlace) (index : ℕ) (start : Memory) (trace : List (Marked WqMark)) → IsRun place index start trace → IsLegal place (empty_queue index) (history place index trace)
+run_is_legal place index start trace r = sides_are_legal place index start trace r.place_ok r.start_ok (run_of_users place index start trace r) r.asks

@@ -1,4 +1,4 @@
--- A send or receive queue as an object of two sides, of which the host's is a poster's and a retirer's, and the traces that the law speaks of.
+-- A send or receive queue as an object of two sides, of which the host's has two users, and the traces that the law speaks of.
 use Rattle.std.specs.Prelude.{ℕ, ◌≡◌, ◌^◌, ◌<◌, ◌&&◌, List, [], filter, Bool, true, false, Option, None}
 use Rattle.std.specs.List.{AllByRecursion}
 use Rattle.bus_core.specs.declared.operation.BusEntry.{BusEntry}
@@ -39,7 +39,7 @@ is_devices _ = false
 abbrev pub of_user : WqPlace → (WqMark → Bool) → List (Marked WqMark) → List (Marked WqMark)
 of_user place is_users trace = filter (λ x. touches place x.entry.addr && is_users x.mark) trace
 
--- the host's two users together, each of whose operations are by their marks
+-- the host's two users: an operation of the host's is one user's, by its mark, and keeps that user's rule
 pub record QueueHost : Type 0 where
   pub poster : Poster
   pub finder : Finder
