@@ -36,7 +36,7 @@ module _ (place : WqPlace) (q : Queue) (s : Order place q) where
   pub order_retired : (end : ℕ) → q.retired < end → end ≤ q.taken → Order place (after_event place q (Retired end))
   order_retired end low high = record { retired = high; taken = s.taken; rung = s.rung; bound = omega (arith, s.bound, low); spaced = s.spaced }
 
-  order_step : (e : WqEvent) → MayHappen place q e → Order place (after_event place q e)
+  pub order_step : (e : WqEvent) → MayHappen place q e → Order place (after_event place q e)
   order_step (Wrote words id) may = order_more words id may.room
   order_step (Full head tail) may = s
   order_step Rang may = order_rung
@@ -46,6 +46,18 @@ module _ (place : WqPlace) (q : Queue) (s : Order place q) where
   order_step (Counted ready true) may = order_taken (may.one refl)
   order_step (Counted ready false) may = s
   order_step (Took words) may = order_taken may.rung
+
+  -- the first request stays where it is
+  pub first_kept : (e : WqEvent) → index_of (after_event place q e) 0 ≡ index_of q 0
+  first_kept (Wrote words id) = index_more place q words id 0 (omega arith)
+  first_kept (Full head tail) = refl
+  first_kept Rang = refl
+  first_kept (Named counter id) = refl
+  first_kept (Found counter id end) = refl
+  first_kept (Retired end) = refl
+  first_kept (Counted ready true) = refl
+  first_kept (Counted ready false) = refl
+  first_kept (Took words) = refl
 
   -- live requests have indices of one window of 2 ^ 16
   counters_rise : (ok : IsPlace place) (n k : ℕ) → q.retired ≤ n → n < k → k < q.taken → index_of q n % 2 ^ 16 ≢ index_of q k % 2 ^ 16

@@ -18,8 +18,8 @@ pub fn stands()
 {}
 
 /// What such a history says of requests: they are taken as they were written and in this order, what
-/// is found is a request that was taken and is not retired, full is told only of a full queue, and
-/// requests are retired in order.
+/// is found is the request of that counter, which was taken and is not retired, full is told only of
+/// a full queue, and requests are retired in order.
 pub fn keeps_requests()
     ensures { (place : WqPlace) (index : ℕ) → KeepsRequests place index }
 {}
