@@ -1,7 +1,7 @@
 -- A turn of a device that reads.
 use Rattle.std.proofs.Common.{◌≡◌, ◌≢◌, ℕ, ◌+◌, ◌-◌, ◌*◌, ◌/◌, ◌<◌, ◌≤◌, inl, inr, refl, ap, sym, ◌∙◌, subst, arith, true, false, eqb, List, [], ◌∷◌, ◌++◌, length, take, Some, None}
 use Rattle.std.specs.Prelude.{slice_index, slice_set}
-use Rattle.std.proofs.Math.Nat.{mul-le-mul_right, mul-le-mul_left, div-lt_iff_lt-mul}
+use Rattle.std.proofs.Math.Nat.{mul-le-mul_right, div-lt_iff_lt-mul}
 use Rattle.std.proofs.lemmas.Bool.{cases_lt, eq-eqb, ne_eqb}
 use Rattle.std.proofs.lemmas.List.{length-take-le, length-set}
 use Rattle.bus_core.specs.declared.operation.BusEntry.{BusEntry}
@@ -14,11 +14,8 @@ use Rattle.counted_ring.specs.Queue.{Took}
 use Rattle.counted_ring.specs.Device.{MayRead, reach, is_whole}
 use Rattle.counted_ring.specs.DeviceView.{DeviceView, DeviceTurn, Read}
 use Rattle.counted_ring.specs.DeviceInside.{IsReading}
+use Rattle.counted_ring.proofs.Shape.{product_some}
 use Rattle.counted_ring.proofs.Parts.{long, read_front, read_first, first_kept}
-
--- a product of numbers that are not 0
-product_some : (a b : ℕ) → 0 < a → 0 < b → 0 < a * b
-product_some a b ha hb = omega (arith, ha, hb, mul-le-mul_left a hb)
 
 module _ (place : WqPlace) (next ready register n w blocks : ℕ) (words : List ℕ)
     (ok : IsPlace place) (full : length words ≡ 32) (reads : IsReading place next ready n words)

@@ -8,8 +8,8 @@ use Rattle.bus_core.specs.declared.turn.Step.TheVariants.{More}
 use Rattle.bus_core.specs.Operation.{IsStore, stored, carried}
 use Rattle.work_entries.specs.declared.units.SendWords.{SendWords}
 use Rattle.counted_ring.specs.declared.place.WqPlace.{WqPlace}
-use Rattle.counted_ring.specs.Place.{touches, word_at, span, entry_words}
-use Rattle.counted_ring.specs.Poster.{Stage, Storing, Naming, MayPost, stage_with, all_words}
+use Rattle.counted_ring.specs.Place.{touches, word_at, span, entry_words, all_words}
+use Rattle.counted_ring.specs.Poster.{Stage, Storing, Naming, MayPost, stage_with}
 use Rattle.counted_ring.specs.PosterView.{PosterView, PosterTurn, Posting}
 use Rattle.counted_ring.proofs.Parts.{long, stored_front, stored_first}
 

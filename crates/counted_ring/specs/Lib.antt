@@ -11,3 +11,6 @@ pub mod DeviceView
 pub mod DeviceInside
 pub mod PosterView
 pub mod PosterInside
+pub mod Ends
+pub mod Law
+pub mod Kept

@@ -7,8 +7,8 @@ pub data WqMark : Type 0 where
   Post : WqMark
   -- it rings for what it posted
   Ring : WqMark
-  -- the retirer looks this counter's id up
-  Lookup : (counter : ℕ) → WqMark
+  -- the retirer looks this counter's id up, after this end: the last one that it found, or the tail where it goes back to it
+  Lookup : (counter from : ℕ) → WqMark
   -- it loads the head word of the counter whose id it loaded
   Count : WqMark
   -- it stores this tail
@@ -25,7 +25,7 @@ pub data WqMark : Type 0 where
 abbrev pub role_of : WqMark → Party
 role_of Post = Host
 role_of Ring = Host
-role_of (Lookup counter) = Host
+role_of (Lookup counter from) = Host
 role_of Count = Host
 role_of (Retire end) = Host
 role_of Look = Device

@@ -1,5 +1,5 @@
 -- Where a counted queue lies, and what its words say.
-use Rattle.std.specs.Prelude.{ℕ, ◌≡◌, ◌+◌, ◌-◌, ◌*◌, ◌/◌, ◌%◌, ◌^◌, ◌<◌, ◌≤◌, ◌==◌, ◌&&◌, ◌||◌, nat_le, nat_lt, if◌then◌else◌, Bool, true, false, Option, Some, None, List, take}
+use Rattle.std.specs.Prelude.{ℕ, ◌≡◌, ◌+◌, ◌-◌, ◌*◌, ◌/◌, ◌%◌, ◌^◌, ◌<◌, ◌≤◌, ◌==◌, ◌&&◌, ◌||◌, nat_le, nat_lt, if◌then◌else◌, Bool, true, false, Option, Some, None, List, take, slice_index}
 use Rattle.work_entries.specs.declared.units.SendWords.{SendWords}
 use Rattle.counted_ring.specs.declared.place.WqPlace.{WqPlace}
 
@@ -28,6 +28,10 @@ unit_blocks units = if nat_le units 4 then 1 else if nat_le units 8 then 2 else 
 -- how many blocks the entry of this first word takes: a control segment has the number of units in its low 6 bits
 abbrev pub span : WqPlace → ℕ → ℕ
 span place first = if is_send place then unit_blocks (first % 2 ^ 6) else 1
+
+-- how many words the entry has that begins with these
+abbrev pub all_words : WqPlace → List ℕ → ℕ
+all_words place words = span place (slice_index words 0) * place.stride
 
 -- the most blocks of an entry
 abbrev pub most : WqPlace → ℕ

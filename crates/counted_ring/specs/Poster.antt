@@ -1,9 +1,9 @@
 -- The rule of the poster, over its own operations on the queue's words.
-use Rattle.std.specs.Prelude.{ℕ, Bool, ◌+◌, ◌*◌, ◌^◌, ◌<◌, ◌==◌, ◌++◌, List, [], ◌∷◌, length, slice_index, nat_lt, Option, Some, None, if◌then◌else◌}
+use Rattle.std.specs.Prelude.{ℕ, Bool, ◌+◌, ◌^◌, ◌<◌, ◌==◌, ◌++◌, List, [], ◌∷◌, length, slice_index, nat_lt, Option, Some, None, if◌then◌else◌}
 use Rattle.bus_core.specs.declared.operation.BusEntry.{BusEntry}
 use Rattle.bus_core.specs.Operation.{IsLoad, IsStore, loaded, stored}
 use Rattle.counted_ring.specs.declared.place.WqPlace.{WqPlace}
-use Rattle.counted_ring.specs.Place.{is_send, word_at, id_at, head_at, span, record_of, outstanding}
+use Rattle.counted_ring.specs.Place.{is_send, word_at, id_at, head_at, span, all_words, record_of, outstanding}
 use Rattle.counted_ring.specs.Queue.{WqEvent, Wrote, Full, Rang}
 
 -- what a post, or a ring, has done: nothing; these first words of an entry; all words of it; its id too; the record
@@ -23,10 +23,6 @@ pub record Poster : Type 0 where
 
 abbrev pub at_stage : Poster → Stage → Poster
 at_stage p stage = record { count = p.count; index = p.index; first = p.first; stage = stage }
-
--- how many words the entry has that begins with these
-abbrev pub all_words : WqPlace → List ℕ → ℕ
-all_words place words = span place (slice_index words 0) * place.stride
 
 abbrev pub has_room : WqPlace → Poster → BusEntry → Bool
 has_room place p e = nat_lt (outstanding p.count (loaded e)) place.max_post

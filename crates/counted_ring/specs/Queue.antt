@@ -2,7 +2,7 @@
 use Rattle.std.specs.Prelude.{ℕ, zero, suc, ◌≡◌, ◌+◌, ◌-◌, ◌%◌, ◌^◌, ◌<◌, ◌≤◌, ◌++◌, List, [], ◌∷◌, length, slice_index, slice_get, Bool, true, false, Some}
 use Rattle.bus_core.specs.Follow.{Follows}
 use Rattle.counted_ring.specs.declared.place.WqPlace.{WqPlace}
-use Rattle.counted_ring.specs.Place.{is_send, span}
+use Rattle.counted_ring.specs.Place.{is_send, span, all_words}
 
 -- a request with the index of its first block, the words of its entry and its id
 pub record Request : Type 0 where
@@ -59,6 +59,11 @@ pub record IsFound (q : Queue) (counter id end : ℕ) : Type 0 where
   pub named : IsNamed q counter id
   pub end_is : end ≡ named.number + 1
 
+-- there is room, and the entry has as many words as its first one says
+pub record MayWrite (place : WqPlace) (q : Queue) (words : List ℕ) : Type 0 where
+  pub room : length q.requests < q.retired + place.max_post
+  pub whole : length words ≡ all_words place words
+
 pub record MayTake (q : Queue) (words : List ℕ) : Type 0 where
   pub rung : q.taken < q.rung
   pub request : Request
@@ -76,7 +81,7 @@ pub record MayCount (q : Queue) (ready : ℕ) (passes : Bool) : Type 0 where
 
 -- the step relation: when an event may happen in a queue, and what it makes
 abbrev pub MayHappen : WqPlace → Queue → WqEvent → Type 0
-MayHappen place q (Wrote words id) = length q.requests < q.retired + place.max_post
+MayHappen place q (Wrote words id) = MayWrite place q words
 MayHappen place q (Full head tail) = MayRefuse place q head tail
 MayHappen place q Rang = Unit {0}
 MayHappen place q (Named counter id) = IsNamed q counter id
@@ -108,14 +113,14 @@ after_event place q (Took words) = record { requests = q.requests; next = q.next
 abbrev pub IsLegal : WqPlace → Queue → List WqEvent → Type 0
 IsLegal place q events = Follows (MayHappen place) (after_event place) q events
 
--- Of which requests pollers speak: a counter is that of a completion, so of a request that was taken and not retired; a receive's are looked up in order; and requests are retired in order, after they were taken.
+-- Of which requests pollers speak: a counter is that of a completion, so of a request that was taken and not retired, and those of receives are looked up in order.
 abbrev pub MayAsk : WqPlace → Queue → WqEvent → Type 0
 MayAsk place q (Wrote words id) = Unit {0}
 MayAsk place q (Full head tail) = Unit {0}
 MayAsk place q Rang = Unit {0}
 MayAsk place q (Named counter id) = (n : ℕ) × IsTaken q counter n
 MayAsk place q (Found counter id end) = is_send place ≡ false → (0 < end) × IsTaken q counter (end - 1)
-MayAsk place q (Retired end) = (q.retired < end) × (end ≤ q.taken)
+MayAsk place q (Retired end) = Unit {0}
 MayAsk place q (Counted ready passes) = Unit {0}
 MayAsk place q (Took words) = Unit {0}
 

@@ -22,34 +22,34 @@ pub record RetirerView : Type 0 where
   pub side : Retirer
   pub task : Option RetirerTask
 
-abbrev pub lookup_mark : ℕ → Option Asked → WqMark
-lookup_mark counter None = Lookup counter
-lookup_mark counter (Some a) = Count
+abbrev pub lookup_mark : ℕ → ℕ → Option Asked → WqMark
+lookup_mark counter found None = Lookup counter found
+lookup_mark counter found (Some a) = Count
 
 -- what its next operation is about
-abbrev pub mark_of : Option RetirerTask → Option Asked → WqMark
-mark_of None asked = Foreign
-mark_of (Some (Lookups counter)) asked = lookup_mark counter asked
-mark_of (Some (Retirement end)) asked = Retire end
+abbrev pub mark_of : Option RetirerTask → Retirer → WqMark
+mark_of None r = Foreign
+mark_of (Some (Lookups counter)) r = lookup_mark counter r.found r.asked
+mark_of (Some (Retirement end)) r = Retire end
 
 abbrev pub next_mark : RetirerView → WqMark
-next_mark r = mark_of r.task r.side.asked
+next_mark r = mark_of r.task r.side
 
 -- the rule of an operation with this mark, the side after it, and what it says
 abbrev pub MayServe : WqPlace → Retirer → WqMark → BusEntry → Type 0
-MayServe place r (Lookup counter) e = MayLookup place counter e
+MayServe place r (Lookup counter from) e = MayLookup place r counter from e
 MayServe place r Count e = MayCountFor place r.asked e
 MayServe place r (Retire end) e = MayRetire place r end e
 MayServe place r _ e = ⊥
 
 abbrev pub after_serve : WqPlace → Retirer → WqMark → BusEntry → Retirer
-after_serve place r (Lookup counter) e = after_lookup place r counter e
+after_serve place r (Lookup counter from) e = after_lookup place r counter from e
 after_serve place r Count e = after_count r e
 after_serve place r (Retire end) e = after_retire r end
 after_serve place r _ e = r
 
 abbrev pub served : WqPlace → Retirer → WqMark → BusEntry → Option WqEvent
-served place r (Lookup counter) e = lookup_says place r counter e
+served place r (Lookup counter from) e = lookup_says place counter from e
 served place r Count e = count_says r e
 served place r (Retire end) e = Some (queue.Retired end)
 served place r _ e = None

@@ -41,6 +41,15 @@ const TWO_BLOCKS: SendWords = SendWords {
     ],
 };
 
+/// A receive of one block of two words.
+const ONE_BLOCK: SendWords = SendWords {
+    blocks: 1,
+    words: [
+        5, 6, 0, 0, 0, 0, 0, 0, 0, 0, 0, 0, 0, 0, 0, 0, 0, 0, 0, 0, 0, 0, 0, 0, 0, 0, 0, 0, 0, 0,
+        0, 0,
+    ],
+};
+
 #[test]
 fn post_goes_across_the_end_of_ring_and_counter(rt: HostRuntime) -> Result<(), Fail> {
     let mut bus = PlainBus::new(rt.alloc(), WORDS, 9)?;
@@ -170,6 +179,41 @@ fn receive_is_looked_up_again(rt: HostRuntime) -> Result<(), Fail> {
     assert_eq!(rt;
         retirer.turn(&mut bus),
         Step::Done(Retired::Found { id: 30, end: 1 })
+    );
+    Ok(())
+}
+
+#[test]
+fn receive_goes_round(rt: HostRuntime) -> Result<(), Fail> {
+    let mut bus = PlainBus::new(rt.alloc(), 8, 10)?;
+    bus.set_start(7, 65535);
+    let mut poster = WqPoster::new(RECEIVE, 65535);
+    poster.begin_post(ONE_BLOCK, 30);
+    assert_eq!(rt; poster.turn(&mut bus), Step::More);
+    assert_eq!(rt; poster.turn(&mut bus), Step::More);
+    assert_eq!(rt; poster.turn(&mut bus), Step::More);
+    assert_eq!(rt; poster.turn(&mut bus), Step::Done(Posted::Wrote));
+    poster.begin_ring();
+    assert_eq!(rt; poster.turn(&mut bus), Step::Done(Posted::Rung));
+    let mut device = WqDevice::new(RECEIVE, 65535);
+    device.begin_record();
+    assert_eq!(rt;
+        device.turn(&mut bus),
+        Step::Done(WqSeen::Count { ready: 1 })
+    );
+    device.begin_read();
+    assert_eq!(rt; device.turn(&mut bus), Step::More);
+    assert_eq!(rt; device.turn(&mut bus), Step::Done(WqSeen::Read(ONE_BLOCK)));
+    let mut retirer = WqRetirer::new(RECEIVE, 65535);
+    retirer.begin_lookup(65535);
+    assert_eq!(rt;
+        retirer.turn(&mut bus),
+        Step::Done(Retired::Found { id: 30, end: 1 })
+    );
+    retirer.begin_retire(1);
+    assert_eq!(rt;
+        retirer.turn(&mut bus),
+        Step::Done(Retired::Tail { tail: 1 })
     );
     Ok(())
 }
