@@ -117,7 +117,7 @@ turns_of_items threads (i ∷ items) are =
 turns_in_row : (threads first n : ℕ) → first + n ≤ threads + 1 → All (λ t. t ≤ threads) (range_with_len first n)
 turns_in_row threads first zero within = λ k e below. absurd (omega (arith, below))
 turns_in_row threads first (suc n) within =
-    All-cons (λ t. t ≤ threads) first (range_with_len (suc first) n) (omega (arith, within)) (turns_in_row threads (suc first) n (omega (arith, within)))
+    All-cons (λ t. t ≤ threads) first (range_with_len (first + 1) n) (omega (arith, within)) (turns_in_row threads (first + 1) n (omega (arith, within)))
 
 turns_of_round : (threads : ℕ) → All (λ t. t ≤ threads) (round_of threads)
 turns_of_round threads =
