@@ -43,9 +43,14 @@ const PRINTED: Answer = Answer {
     line: "",
 };
 
-const NOT_BUILT_YET: Status = Status::Malformed {
-    line: 0,
-    rule: TextRule::NotBuilt,
+const UNENDED: Status = Status::Malformed {
+    line: 1,
+    rule: TextRule::Missing,
+};
+
+const BAD_FORM: Status = Status::Malformed {
+    line: 1,
+    rule: TextRule::Form,
 };
 
 const TEXT_TOO_LONG: Status = Status::Limit {
@@ -67,10 +72,25 @@ const USAGE: Answer = Answer {
     line: "mlx5: usage\n",
 };
 
-const NOT_BUILT: Answer = Answer {
-    status: NOT_BUILT_YET,
+const TOO_EARLY: Answer = Answer {
+    status: UNENDED,
     output: "",
-    line: "mlx5: line 0: not built\n",
+    line: "mlx5: line 1: missing\n",
+};
+
+const MISFORMED: Answer = Answer {
+    status: BAD_FORM,
+    output: "",
+    line: "mlx5: line 1: form\n",
+};
+
+const LOG_PASSED: Answer = Answer {
+    status: Status::Limit {
+        name: LimitName::Log,
+        value: 11,
+    },
+    output: "",
+    line: "mlx5: limit log 11\n",
 };
 
 const READ_FAULT: Answer = Answer {
@@ -217,13 +237,19 @@ fn a_failing_read(rt: HostRuntime) -> Result<(), Fail> {
 }
 
 #[test]
-fn texts_outside_the_grammar(rt: HostRuntime) -> Result<(), Fail> {
-    let texts: [&[u8]; 5] = [b"\n", b"#\n", b"\xff", &SCENARIO[..6], &SCENARIO[1..]];
-    for text in texts {
+fn texts_of_and_outside_the_grammar(rt: HostRuntime) -> Result<(), Fail> {
+    let texts: [(&[u8], &Answer); 5] = [
+        (b"#\n\n", &EMPTY_PRINTED),
+        (&SCENARIO[..6], &TOO_EARLY),
+        (&SCENARIO[1..], &MISFORMED),
+        (b"eq e 11\npd p\n", &LOG_PASSED),
+        (b"walk\neq e 11\n", &MISFORMED),
+    ];
+    for (text, answer) in texts {
         let mut source = TextSource::new(text);
         source.step = 1;
         let mut out = TextSink::new(rt.alloc());
-        expect(&rt, &["run"], &mut source, &mut out, &NOT_BUILT)?;
+        expect(&rt, &["run"], &mut source, &mut out, answer)?;
         assert_eq!(rt; source.rest.len(), 0);
     }
     Ok(())
@@ -256,7 +282,7 @@ fn the_limit_of_a_text(rt: HostRuntime) -> Result<(), Fail> {
     let mut words = Vec::new(rt.alloc());
     words.push(String::from_str(rt.alloc(), "run")?)?;
     let texts = [
-        (4_194_304, 0, NOT_BUILT_YET),
+        (4_194_304, 0, UNENDED),
         (4_194_305, 0, TEXT_TOO_LONG),
         (4_194_306, 1, TEXT_TOO_LONG),
     ];
@@ -309,7 +335,7 @@ fn numbers_of_statuses(rt: HostRuntime) {
         (Status::Done, 0),
         (Status::Illegal, 1),
         (Status::Usage, 2),
-        (NOT_BUILT_YET, 3),
+        (BAD_FORM, 3),
         (TEXT_TOO_LONG, 4),
         (Status::ReadFault, 5),
         (Status::WriteFault, 6),
