@@ -90,10 +90,15 @@ may_stand_in s (InPost qp) keyword = is_item keyword || (is_of_thread keyword &&
 abbrev pub may_stand : Said → Keyword → Bool
 may_stand s keyword = may_stand_in s s.place keyword
 
+-- no `connect` line names the queue pair, if it is one
+abbrev pub is_unconnected : Said → Option ℕ → Bool
+is_unconnected s None = true
+is_unconnected s (Some qp) = not (pair_use s qp).connected
+
 -- a name that was given before, and a queue pair that was connected before, are double
 abbrev pub is_new : Said → Slot → Field → Bool
 is_new s NewName field = is_none (meaning_of s.names field)
-is_new s Pair field = not (pair_use s (qp_named s field)).connected
+is_new s Pair field = is_unconnected s (number_named s.names kinds.Qp field)
 is_new s _ field = true
 
 -- an earlier line gives the name to what is meant

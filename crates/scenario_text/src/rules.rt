@@ -207,7 +207,10 @@ impl Sofar {
     {
         match slot {
             Slot::NewName => self.names.find(field).is_none(),
-            Slot::Pair => !self.pair_use(self.qp(field)).connected,
+            Slot::Pair => match self.names.number(Kind::Qp, field) {
+                Some(qp) => !self.pair_use(qp).connected,
+                None => true,
+            },
             _ => true,
         }
     }

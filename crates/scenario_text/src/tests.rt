@@ -191,7 +191,7 @@ fn empty_text_is_idle(rt: HostRuntime) -> Result<(), Fail> {
 
 /// A line, or lines, in the place of one of the first scenario, with the first bad line and the first rule
 /// that it breaks.
-const BAD: [(usize, &[u8], u32, TextRule); 77] = [
+const BAD: [(usize, &[u8], u32, TextRule); 78] = [
     (0, b"eq e", 1, TextRule::Form),
     (0, b"eq e 01", 1, TextRule::Number),
     (0, b"eq e 18446744073709551616", 1, TextRule::Number),
@@ -227,6 +227,7 @@ const BAD: [(usize, &[u8], u32, TextRule); 77] = [
     (4, b"connect q", 5, TextRule::Form),
     (4, b"connect q q\nconnect q q", 6, TextRule::Double),
     (4, b"connect x q", 5, TextRule::Name),
+    (4, b"connect q q\nconnect x c", 6, TextRule::Name),
     (5, b"thread q", 6, TextRule::Double),
     (5, b"thread", 6, TextRule::Form),
     (5, b"connect q q", 6, TextRule::Double),
