@@ -1,4 +1,5 @@
 //! Texts and what they spell.
+use crate::lines::read_hex_pair;
 use crate::{LimitName, Plan, PlanItem, Scenario, ScenarioFault, TextRule, parse_scenario};
 use std::alloc::Global;
 use std::process::Abort;
@@ -379,6 +380,15 @@ fn name_is_unknown_before_its_line(rt: HostRuntime) -> Result<(), Fail> {
     assert!(&rt; breaks(rt.alloc(), headless.as_slice(), 2, TextRule::Name));
     assert!(&rt; breaks(rt.alloc(), b"arena 8\n", 1, TextRule::NotBuilt));
     Ok(())
+}
+
+#[test]
+fn hexadecimal_pairs_are_bytes(rt: HostRuntime) {
+    assert_eq!(&rt; read_hex_pair(b'5', b'a'), Some(0x5a));
+    assert_eq!(&rt; read_hex_pair(b'0', b'0'), Some(0));
+    assert_eq!(&rt; read_hex_pair(b'f', b'f'), Some(0xff));
+    assert_eq!(&rt; read_hex_pair(b'F', b'0'), None);
+    assert_eq!(&rt; read_hex_pair(b'0', b'g'), None);
 }
 
 #[test]
