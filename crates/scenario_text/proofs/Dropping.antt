@@ -1,5 +1,5 @@
 -- A list without its first items.
-use Rattle.std.proofs.Common.{◌≡◌, ℕ, zero, suc, ◌+◌, ◌-◌, List, [], ◌∷◌, Option, Some, None, MatchOption, is_some, Bool, not, ◌≤◌, ◌<◌, ◌==◌, true, false, true≢false, drop, length, length-drop, slice_index_or, refl, sym, ap, ◌∙◌, subst, arith}
+use Rattle.std.proofs.Common.{◌≡◌, ℕ, zero, suc, ◌+◌, List, [], ◌∷◌, Option, Some, None, MatchOption, is_some, Bool, not, ◌≤◌, ◌<◌, ◌==◌, true, false, true≢false, drop, length, length-drop, slice_index_or, refl, sym, ap, ◌∙◌, subst, arith}
 use Rattle.std.specs.Option.{unwrap_or, is_none}
 use Rattle.std.proofs.lemmas.Bool.Decides.{nat_tests}
 

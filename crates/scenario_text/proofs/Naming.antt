@@ -1,5 +1,5 @@
 -- A line that breaks no rule has a new name where it declares something.
-use Rattle.std.proofs.Common.{◌≡◌, ℕ, ◌<◌, Bool, true, false, not, List, [], ◌∷◌, Option, None, Some, IsTrue, is_some, refl, true≢false, sym, ap, subst, cond, length, get_or, arith}
+use Rattle.std.proofs.Common.{◌≡◌, ℕ, ◌<◌, Bool, true, false, List, ◌∷◌, Option, None, Some, IsTrue, refl, true≢false, sym, ap, subst, cond, length, get_or, arith}
 use Rattle.std.specs.Option.{is_none}
 use Rattle.std.specs.List.{list_all}
 use Rattle.scenario_text.specs.After.{name_in, count_line}

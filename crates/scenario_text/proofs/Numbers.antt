@@ -1,6 +1,6 @@
 -- The number that digits spell.
-use Rattle.std.proofs.Common.{◌≡◌, ◌≢◌, ℕ, zero, suc, ◌<◌, ◌≤◌, ◌^◌, Bool, true, false, ◌==◌, not, ◌&&◌, cond, nat_lt, List, [], ◌∷◌, length, drop, Result, Option, Some, None, Ok, Err, refl, sym, true≢false, ap, ◌∙◌, subst, IsUtf8, arith, lit<}
-use Rattle.std.specs.Char.{is_ascii_digit, digit_value}
+use Rattle.std.proofs.Common.{◌≡◌, ℕ, zero, suc, ◌<◌, ◌^◌, Bool, true, false, ◌==◌, not, ◌&&◌, cond, nat_lt, List, [], ◌∷◌, length, drop, Result, Some, None, Ok, Err, refl, sym, true≢false, ap, subst, IsUtf8, arith, lit<}
+use Rattle.std.specs.Char.{digit_value}
 use Rattle.std.specs.List.{list_all}
 use Rattle.std.specs.Result.{result_ok, OkIff}
 use Rattle.std.specs.Str.Parse.{AllDigits, IsNumeral, digits_value, ParsesUnsigned, without_leading_plus}
@@ -8,7 +8,7 @@ use Rattle.std.specs.Str.{IsAscii}
 use Rattle.std.proofs.lemmas.Str.{IsUtf8-from_ascii}
 use Rattle.std.proofs.lemmas.Bool.{and_parts}
 use Rattle.std.proofs.lemmas.Bool.Decides.{nat_tests}
-use Rattle.scenario_text.specs.Text.{is_digit, is_digits, has_leading_zero, is_number, read_number}
+use Rattle.scenario_text.specs.Text.{is_digit, is_digits, has_leading_zero, read_number}
 
 -- a digit is of the decimal digits, and no sign
 digit_small : (b : ℕ) → is_digit b ≡ true → digit_value b < 10

@@ -1,9 +1,9 @@
 -- No list is longer than the text.
 use Rattle.std.proofs.Common.{◌≡◌, ℕ, ◌+◌, ◌<◌, ◌≤◌, Bool, true, false, cond, List, [], ◌∷◌, ◌++◌, length, length-append, Option, Some, None, refl, ap, arith}
 use Rattle.verbs_model.specs.declared.declaration.Lines.{Lines}
-use Rattle.scenario_text.specs.After.{after_line, add_line, add_known, add_parts, close_place, close_post, count_line, note_limits, take_room}
-use Rattle.scenario_text.specs.Keywords.{keyword_of, is_of_thread, section_of}
-use Rattle.scenario_text.specs.Sofar.{Said, IsFew, IsSmall}
+use Rattle.scenario_text.specs.After.{after_line, add_line, add_known, close_place, count_line, note_limits, take_room}
+use Rattle.scenario_text.specs.Keywords.{keyword_of}
+use Rattle.scenario_text.specs.Sofar.{Said, IsSmall}
 use Rattle.scenario_text.specs.Text.{Line, split, part_at, is_skipped}
 use Rattle.scenario_text.specs.declared.keyword.Keyword.{Keyword}
 use Rattle.scenario_text.specs.declared.keyword.Keyword.TheVariants.{Eq, Pd, Cq, Qp, Connect, Thread, End, Post, Item, Poll, Drain, Schedule, Rounds}

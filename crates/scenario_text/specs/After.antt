@@ -1,5 +1,5 @@
 -- What a line that breaks no rule adds.
-use Rattle.std.specs.Prelude.{ℕ, zero, suc, ◌+◌, ◌-◌, ◌^◌, List, [], ◌∷◌, ◌++◌, map, drop, length, min, Option, None, Some, true, false, slice_get, slice_set, if◌then◌else◌}
+use Rattle.std.specs.Prelude.{ℕ, zero, suc, ◌+◌, ◌-◌, ◌^◌, List, [], ◌∷◌, ◌++◌, map, drop, length, min, Option, None, Some, true, false, if◌then◌else◌}
 use Rattle.verbs_model.specs.declared.call.Call.TheVariants as calls
 use Rattle.verbs_model.specs.declared.declaration.Object.{Object as TheObject}
 use Rattle.verbs_model.specs.declared.declaration.Object.TheVariants as objects

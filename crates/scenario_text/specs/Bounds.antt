@@ -1,5 +1,5 @@
 -- The limits of lines and of whole texts.
-use Rattle.std.specs.Prelude.{ℕ, ◌+◌, ◌*◌, ◌-◌, ◌^◌, ◌==◌, List, [], ◌∷◌, length, min, map, Option, None, Some, Bool, not, ◌&&◌, nat_le, if◌then◌else◌}
+use Rattle.std.specs.Prelude.{ℕ, ◌+◌, ◌*◌, ◌-◌, ◌^◌, ◌==◌, List, [], ◌∷◌, length, min, Option, None, Some, Bool, ◌&&◌, nat_le, if◌then◌else◌}
 use Rattle.std.specs.List.{fold, count_by}
 use Rattle.std.specs.Option.{unwrap_or}
 use Rattle.verbs_model.specs.declared.declaration.CqLine.{CqLine}

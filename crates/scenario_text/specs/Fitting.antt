@@ -1,5 +1,5 @@
 -- What a line that breaks no rule gives to those who add it.
-use Rattle.std.specs.Prelude.{◌≡◌, IsTrue, None, Some, ⊤}
+use Rattle.std.specs.Prelude.{◌≡◌, IsTrue, None, ⊤}
 use Rattle.verbs_model.specs.Names.{is_name}
 use Rattle.scenario_text.specs.Text.{Line}
 use Rattle.scenario_text.specs.Naming.{meaning_of}

@@ -1,5 +1,5 @@
 -- The first words of lines: what stands after each, and in which part of a scenario it stands.
-use Rattle.std.specs.Prelude.{ℕ, List, [], ◌∷◌, codes, Option, None, Some, Bool, true, false, ◌||◌, nat_le, if◌then◌else◌, bytes_eq}
+use Rattle.std.specs.Prelude.{ℕ, List, [], ◌∷◌, codes, Option, None, Some, Bool, true, false, nat_le, if◌then◌else◌, bytes_eq}
 use Rattle.std.specs.List.{list_any}
 use Rattle.scenario_text.specs.Text.{Field}
 use Rattle.scenario_text.specs.declared.keyword.Keyword.{Keyword}

@@ -1,5 +1,5 @@
 -- What may stand in each place of a line, whatever stands before it.
-use Rattle.std.specs.Prelude.{ℕ, ◌==◌, List, [], ◌∷◌, codes, Bool, true, false, ◌||◌, ◌&&◌, nat_eq, drop, length, if◌then◌else◌, bytes_eq}
+use Rattle.std.specs.Prelude.{ℕ, ◌==◌, List, [], ◌∷◌, codes, Bool, true, ◌||◌, ◌&&◌, nat_eq, drop, length, bytes_eq}
 use Rattle.std.specs.List.{list_any, starts_with}
 use Rattle.verbs_model.specs.Names.{is_name}
 use Rattle.scenario_text.specs.Text.{Field, split, part_at, is_digits, is_number}

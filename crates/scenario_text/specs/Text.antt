@@ -1,5 +1,5 @@
 -- The lines of a text, the fields of a line, and the digits of a field.
-use Rattle.std.specs.Prelude.{ℕ, ◌+◌, ◌*◌, ◌-◌, ◌^◌, ◌==◌, List, [], ◌∷◌, Option, None, Some, codes, Bool, true, false, not, ◌&&◌, nat_lt, nat_le, nat_eq, length, slice_index_or, if◌then◌else◌}
+use Rattle.std.specs.Prelude.{ℕ, ◌+◌, ◌*◌, ◌-◌, ◌^◌, ◌==◌, List, [], ◌∷◌, Option, None, Some, codes, Bool, true, not, ◌&&◌, nat_lt, nat_le, nat_eq, length, slice_index_or, if◌then◌else◌}
 use Rattle.std.specs.Char.{is_ascii_digit}
 use Rattle.std.specs.List.{slice_split, starts_with, list_all}
 use Rattle.std.specs.Option.{unwrap_or}

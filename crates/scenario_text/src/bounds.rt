@@ -8,11 +8,11 @@ ghost use Rattle.scenario_text.specs.Limits.{times_of};
 ghost use Rattle.scenario_text.specs.Sofar.{view_of};
 ghost use Rattle.scenario_text.specs.Text.{split};
 
-use crate::after::{number, recv_log, size};
 use crate::fault::LimitName;
 use crate::keyword::Keyword;
 use crate::scenario::{Plan, PlanItem};
 use crate::sofar::{Passed, Sofar};
+use crate::values::{number, recv_log, size};
 
 /// The greatest start value.
 const MAX_START: u64 = 1 << 32;

@@ -3,6 +3,8 @@
 
 mod after;
 mod bounds;
+mod calls;
+mod declare;
 mod fault;
 mod keyword;
 pub mod laws;
@@ -16,6 +18,7 @@ mod slot;
 mod sofar;
 #[cfg(test)]
 mod tests;
+mod values;
 
 pub use fault::{LimitName, ScenarioFault, TextRule};
 pub use parse::parse_scenario;

@@ -1,5 +1,5 @@
 //! What the names of a scenario stand for.
-ghost use Rattle.std.specs.Prelude.{◌≡◌, ◌↔◌, ◌++◌, ◌∷◌, [], ℕ, OnOk, IsErrOf, IsSome};
+ghost use Rattle.std.specs.Prelude.{◌≡◌, ◌++◌, ◌∷◌, [], OnOk};
 ghost use Rattle.scenario_text.specs.Naming.{meaning_of, number_as, number_named};
 
 use crate::slot::Kind;

@@ -1,7 +1,6 @@
 //! From a text to a scenario.
-ghost use Rattle.std.specs.Prelude.{◌≡◌, ◌≤◌, ◌<◌, IfOk, IfErr, OnOk, length, Ok, Err};
+ghost use Rattle.std.specs.Prelude.{◌≡◌, ◌≤◌, IfOk, IfErr, length, Ok, Err};
 ghost use Rattle.scenario_text.specs.Whole.{HasFault, Says, end_of, nothing_said, parts_said};
-ghost use Rattle.scenario_text.specs.Running.{CanRun};
 ghost use Rattle.scenario_text.specs.Sofar.{view_of};
 
 use crate::fault::{LimitName, ScenarioFault, TextRule};

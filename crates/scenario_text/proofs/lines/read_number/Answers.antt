@@ -1,6 +1,5 @@
-use Rattle.std.proofs.Common.{◌≡◌, true, false, not, sym, ap, ◌∙◌, subst, List, ℕ}
+use Rattle.std.proofs.Common.{sym, ◌∙◌, subst, List, ℕ}
 use Rattle.std.specs.Str.Parse.{ParsesUnsigned}
-use Rattle.scenario_text.specs.Text as text
 use Rattle.scenario_text.proofs.Numbers.{read_by_parse, digits_utf8}
 use Rattle.scenario_text.proofs.lines.read_number.Goals as goal
 

@@ -1,6 +1,6 @@
-use Rattle.std.proofs.Common.{◌≡◌, ◌==◌, Bor, List, ℕ, ap, sym, ◌∙◌, length, arith}
+use Rattle.std.proofs.Common.{◌==◌, Bor, List, ℕ, ap, sym, ◌∙◌, length, arith}
 use Rattle.scenario_text.specs.Text.{split, Parting}
-use Rattle.scenario_text.proofs.Dropping.{Passed, passed_none, passed_next, passed_end, passed_short, told_none}
+use Rattle.scenario_text.proofs.Dropping.{passed_none, passed_next, passed_end, passed_short, told_none}
 use Rattle.scenario_text.proofs.parts.has_parts.Goals as goal
 
 pub loop-passed-init : goal.loop-passed-init

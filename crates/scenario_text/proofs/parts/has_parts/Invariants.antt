@@ -1,6 +1,5 @@
 -- The parts that are left after those passed so far, of which each was there.
-use Rattle.std.proofs.Common.{◌≡◌, ◌≤◌, drop, length}
-use Rattle.scenario_text.specs.Text.{split, Parting}
+use Rattle.scenario_text.specs.Text.{split}
 use Rattle.scenario_text.proofs.Dropping.{Passed}
 use Rattle.scenario_text.proofs.parts.has_parts.Given as goal
 

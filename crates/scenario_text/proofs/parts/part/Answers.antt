@@ -1,4 +1,4 @@
-use Rattle.std.proofs.Common.{◌≡◌, Bor, List, ℕ, drop, ap, ap₂, ◌∙◌, arith}
+use Rattle.std.proofs.Common.{Bor, List, ℕ, drop, ap, ap₂, ◌∙◌, arith}
 use Rattle.scenario_text.specs.Text.{split, Parting}
 use Rattle.scenario_text.proofs.Dropping.{next_dropped, taken_at}
 use Rattle.scenario_text.proofs.parts.part.Goals as goal

@@ -1,4 +1,3 @@
-use Rattle.std.proofs.Common.{sym, ◌∙◌, ap}
 use Rattle.scenario_text.proofs.NamingLemmas.{entries_more}
 use Rattle.scenario_text.proofs.names.Names.give.Goals as goal
 

@@ -1,4 +1,4 @@
-use Rattle.std.proofs.Common.{◌≡◌, sym, ap, ◌∙◌}
+use Rattle.std.proofs.Common.{sym, ap, ◌∙◌}
 use Rattle.scenario_text.specs.Keywords.{keyword_of}
 use Rattle.scenario_text.specs.Sofar.{view_of}
 use Rattle.scenario_text.proofs.Naming.{named_in}

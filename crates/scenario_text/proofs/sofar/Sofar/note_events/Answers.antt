@@ -1,4 +1,4 @@
-use Rattle.std.proofs.Common.{◌≡◌, ℕ, sym, ap, ap₂, ◌∙◌, length, arith}
+use Rattle.std.proofs.Common.{ℕ, ap, ap₂, ◌∙◌, length, arith}
 use Rattle.scenario_text.specs.Bounds as bounds
 use Rattle.scenario_text.specs.Sofar.{Said, view_of}
 use Rattle.scenario_text.specs.declared.fault.LimitName.TheVariants as limits

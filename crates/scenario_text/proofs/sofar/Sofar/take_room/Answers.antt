@@ -1,5 +1,4 @@
-use Rattle.std.proofs.Common.{◌≡◌, ◌-◌, ℕ, Some, ap, refl, List, length}
-use Rattle.verbs_model.specs.declared.declaration.TheConstants.{FIRST_QP}
+use Rattle.std.proofs.Common.{ℕ, ap, refl, List, length}
 use Rattle.scenario_text.specs.After as after
 use Rattle.scenario_text.specs.Sofar.{Said, view_of}
 use Rattle.scenario_text.specs.declared.sofar.QueueUse.{QueueUse}
