@@ -19,3 +19,5 @@ pub use writer::TextWriter;
 mod request_tests;
 #[cfg(test)]
 mod tests;
+#[cfg(test)]
+mod trace_tests;
