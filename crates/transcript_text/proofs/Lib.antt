@@ -2,3 +2,4 @@ pub mod HexLemmas
 pub mod LineLemmas
 pub mod ObjectLemmas
 pub mod PairLemmas
+pub mod ZipLemmas

@@ -15,3 +15,7 @@ four_added old a b c new w x y z p q r s = grind (arith, append_assoc)
 -- a first field, the further ones, and the end of the line
 pub line_added : (old a b new name : List ℕ) (fields : List (List ℕ)) → a ≡ old ++ name → b ≡ a ++ spaced fields → new ≡ b ++ 10 ∷ [] → new ≡ old ++ line (name ∷ fields)
 line_added old a b new name fields p q r = rw (joined_fields name fields) (grind (arith, append_assoc))
+
+-- three pieces, each added at the end
+pub three_added : (old a b new w x y : List ℕ) → a ≡ old ++ w → b ≡ a ++ x → new ≡ b ++ y → new ≡ old ++ (w ++ x ++ y)
+three_added old a b new w x y p q r = grind (arith, append_assoc)

@@ -42,7 +42,7 @@ pub fn put_history(
 }
 
 /// Adds the last line, with the count of entries.
-fn put_end(out: &mut TextWriter, count: u64) -> Result<(), NoMemory>
+pub(crate) fn put_end(out: &mut TextWriter, count: u64) -> Result<(), NoMemory>
     ensures { OnOk result (out.new ≡ out.old ++ texts.end_text count) }
 {
     out.put_bytes(b"end")?;

@@ -1,4 +1,4 @@
-//! Transcripts: the text of a history, and the writers that it is made with.
+//! Transcripts: the texts of a history and of a trace, and the writers that they are made with.
 #![tactic(auto)]
 
 mod completion;
@@ -7,13 +7,17 @@ mod history;
 mod names;
 mod request;
 mod row;
+mod trace;
 mod writer;
 
 pub use head::put_head;
 pub use history::{print_history, put_history};
+pub use trace::print_trace;
 pub use writer::TextWriter;
 
 #[cfg(test)]
 mod request_tests;
 #[cfg(test)]
 mod tests;
+#[cfg(test)]
+mod trace_tests;

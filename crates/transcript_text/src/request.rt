@@ -115,7 +115,7 @@ fn put_key(out: &mut TextWriter, key: u32) -> Result<(), NoMemory>
     ensures { OnOk result (out.new ≡ out.old ++ (codes " " ++ texts.key_text key)) }
 {
     out.put_field(b"#")?;
-    out.put_hex(8, key)
+    out.put_hex(8, u64::from(key))
 }
 
 fn put_body(out: &mut TextWriter, body: &Body) -> Result<(), NoMemory>
@@ -150,7 +150,7 @@ fn put_inline(out: &mut TextWriter, bytes: &[u8]) -> Result<(), NoMemory>
 {
     out.put_field(b"=")?;
     for byte in bytes {
-        out.put_hex(2, u32::from(*byte))?;
+        out.put_hex(2, u64::from(*byte))?;
     }
     Ok(())
 }

@@ -50,7 +50,7 @@ const FLUSHED: Completion = Completion {
 };
 
 /// One queue pair, connected with itself, one completion queue, and the threads a and b.
-fn one_pair(alloc: Global) -> Result<Declared, Fail>
+pub(crate) fn one_pair(alloc: Global) -> Result<Declared, Fail>
     ensures cqs { IfOk result (λ d. length d.cqs ≡ 1) }
     ensures qps { IfOk result (λ d. length d.qps ≡ 1) }
     ensures threads { IfOk result (λ d. length d.threads ≡ 2) }

@@ -1,5 +1,5 @@
 //! A text that grows at its end.
-ghost use Rattle.std.specs.Prelude.{◌≡◌, ◌≤◌, [], ◌∷◌, ◌++◌, codes, decimal, OnOk};
+ghost use Rattle.std.specs.Prelude.{◌≡◌, ◌≤◌, [], ◌∷◌, ◌++◌, codes, decimal, OnOk, IfOk};
 ghost use Rattle.scenario_text.specs.Requests.{hex, hex_digit};
 
 use itoa::Buffer;
@@ -28,6 +28,16 @@ impl TextWriter {
     {
         TextWriter {
             text: Vec::new(alloc),
+        }
+    }
+
+    /// The empty text, with room for so many bytes: while they last, what is added takes no memory.
+    pub fn with_capacity(alloc: Global, capacity: usize) -> Result<Self, NoMemory>
+        ensures { IfOk result (λ out. out ≡ []) }
+    {
+        match Vec::with_capacity(alloc, capacity) {
+            Ok(text) => Ok(TextWriter { text }),
+            Err(_) => Err(NoMemory),
         }
     }
 
@@ -65,9 +75,9 @@ impl TextWriter {
         self.put_bytes(Buffer::new().format(number).as_bytes())
     }
 
-    /// Adds the last `digits` hexadecimal digits of a number, 8 at most.
-    pub fn put_hex(&mut self, digits: u32, number: u32) -> Result<(), NoMemory>
-        requires { digits ≤ 8 }
+    /// Adds the last `digits` hexadecimal digits of a number, 16 at most.
+    pub fn put_hex(&mut self, digits: u32, number: u64) -> Result<(), NoMemory>
+        requires { digits ≤ 16 }
         ensures { OnOk result (self.new ≡ self.old ++ hex digits number) }
     {
         for place in (0..digits).rev() {
@@ -90,6 +100,14 @@ impl TextWriter {
     {
         self.put_byte(b' ')?;
         self.put_number(number)
+    }
+
+    /// Adds a space and a word in 16 hexadecimal digits.
+    pub fn put_word_field(&mut self, word: u64) -> Result<(), NoMemory>
+        ensures { OnOk result (self.new ≡ self.old ++ (codes " " ++ hex 16 word)) }
+    {
+        self.put_byte(b' ')?;
+        self.put_hex(16, word)
     }
 
     /// Adds a colon and these bytes.
@@ -116,7 +134,7 @@ impl TextWriter {
     }
 }
 
-fn hex_digit(digit: u32) -> u8
+fn hex_digit(digit: u64) -> u8
     requires { digit ≤ 15 }
     ensures { result ≡ hex_digit digit }
 {
