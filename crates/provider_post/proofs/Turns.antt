@@ -82,7 +82,6 @@ pub record Made (p p' : PosterView) (number blocks : ℕ) (list : List Request) 
 module _ (p p' : PosterView) (number blocks blocks_before : ℕ) (list : List Request) (dropped : Bool) (c : Call) (e : BusEntry)
     (send : is_send p.place ≡ true) (k : IsAtCall p blocks_before c) (place_is : p'.place ≡ p.place)
     (count : length list ≡ c.count) (carried : (n : ℕ) (r : Request) → slice_get list n ≡ Some r → CanCarry r) where
-
   -- of a request
   module _ (words : List ℕ) (id : ℕ) (left : is_written c ≡ false) (spans : blocks ≡ span p.place (slice_index words 0))
       (next : IsNext p.place number p.side.index (slice_get list c.accepted) (Some (Posting words id)))
@@ -120,8 +119,8 @@ module _ (p p' : PosterView) (number blocks blocks_before : ℕ) (list : List Re
         count = count;
         carried = carried;
         next = subst (λ (t : Option PosterTask). IsNext p'.place number p'.side.index (slice_get list c.accepted) t) (sym task)
-        (subst (λ (pl : WqPlace). IsNext pl number p'.side.index (slice_get list c.accepted) (Some (Posting words id))) (sym place_is)
-        (subst (λ (i : ℕ). IsNext p.place number i (slice_get list c.accepted) (Some (Posting words id))) (sym s.index) next));
+            (subst (λ (pl : WqPlace). IsNext pl number p'.side.index (slice_get list c.accepted) (Some (Posting words id))) (sym place_is)
+            (subst (λ (i : ℕ). IsNext p.place number i (slice_get list c.accepted) (Some (Posting words id))) (sym s.index) next));
       };
     }
 

@@ -8,7 +8,7 @@ ghost use Rattle.actor_map.specs.Limits.{IsQpSize};
 ghost use Rattle.actor_map.specs.Sizes.{words_of, qp_words, receive_words, stride};
 ghost use Rattle.provider_post.specs.Place as words;
 
-use actor_map::{AddressMap, ObjectKind};
+use actor_map::{AddressMap, ObjectKind, laws};
 use counted_ring::WqPlace;
 use verbs_model::{Declared, FIRST_QP, QpLine};
 
@@ -22,8 +22,11 @@ pub fn send_place(d: &Declared, map: &AddressMap, object: u32) -> WqPlace
     ensures place { words.IsSendPlace d.now object result }
     ensures fine { IsPlace result }
 {
-    let first = map.first(ObjectKind::Qp, object);
-    place_from(first, &d.lines().qps.as_slice()[(object - FIRST_QP) as usize])
+    // The queue pair's words lie within the map.
+    laws::whole();
+    laws::inside();
+    let line = &d.lines().qps.as_slice()[(object - FIRST_QP) as usize];
+    place_from(map.first(ObjectKind::Qp, object), line)
 }
 
 /// The place of the send queue of a queue pair whose words begin with `first`.

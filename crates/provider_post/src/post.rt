@@ -64,11 +64,11 @@ impl PostSide {
         ensures { IsFresh d.now object result }
     {
         let place = send_place(d, map, object);
-        let start = d.lines().qps.as_slice()[(object - FIRST_QP) as usize].start;
+        let line = &d.lines().qps.as_slice()[(object - FIRST_QP) as usize];
         PostSide {
-            poster: WqPoster::new(place, start),
+            poster: WqPoster::new(place, line.start),
             number: object,
-            index: start,
+            index: line.start,
             blocks: 1,
             call: None,
             dropped: false,

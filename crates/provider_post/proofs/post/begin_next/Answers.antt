@@ -22,8 +22,7 @@ returns c =
     let r = c.index-list-call.result in
     let entry = c.encode_send-entry.result in
     let left : is_written c.args.call.now ≡ false = sym c.is_written.ensures ∙ c.if-is_written.false in
-    let found = item_at c.args.list.now c.args.call.now.accepted r (below c.args.call.now c.args.list.now left c.requires.some c.requires.count) c.index-list-call.is in
-    (
+    let found = item_at c.args.list.now c.args.call.now.accepted r (below c.args.call.now c.args.list.now left c.requires.some c.requires.count) c.index-list-call.is in (
       Posting (entry_words place entry) r.id,
       record {
         poster = c.begin_post.ensures;

@@ -55,10 +55,9 @@ returns g c =
     in
     let new : PostView = record { poster = c.turn.new.self; number = a.number; call = c.left-self-inside.result; dropped = a.dropped; noted = c.note_of-self-inside.result } in
     let old_is : record { poster = a.poster; number = a.number; call = Some call; dropped = a.dropped; noted = a.noted } ≡ c.args.self.now =
-    ap (λ (o : Option Call). record { poster = a.poster; number = a.number; call = o; dropped = a.dropped; noted = a.noted }) (sym c.in-Some.is) ∙ c.self.view_is in
-    (
+    ap (λ (o : Option Call). record { poster = a.poster; number = a.number; call = o; dropped = a.dropped; noted = a.noted }) (sym c.in-Some.is) ∙ c.self.view_is in (
       made.0,
       made.1,
       subst (λ (v : PostView). PostTurn v new c.args.list.now made.0 c.step.result) old_is
-      (subst (λ (s : Step (Unit {0}) PostAnswer). PostTurn (record { poster = a.poster; number = a.number; call = Some call; dropped = a.dropped; noted = a.noted }) new c.args.list.now made.0 s) (sym c.step.ensures) t.turn),
+          (subst (λ (s : Step (Unit {0}) PostAnswer). PostTurn (record { poster = a.poster; number = a.number; call = Some call; dropped = a.dropped; noted = a.noted }) new c.args.list.now made.0 s) (sym c.step.ensures) t.turn),
     )
