@@ -17,7 +17,7 @@ use Rattle.counted_ring.specs.declared.place.WqPlace.{WqPlace}
 use Rattle.counted_ring.specs.Place.{is_send}
 use Rattle.counted_ring.specs.Poster.{Ready}
 use Rattle.counted_ring.specs.PosterView.{PosterView}
-use Rattle.provider_post.specs.Place.{IsLineOf, IsSendPlace}
+use Rattle.provider_post.specs.Place.{IsLineOf, IsSendPlace, IsWithin}
 use Rattle.provider_post.specs.Side.{IsFresh}
 use Rattle.provider_post.specs.Inside.{IsSide}
 use Rattle.actor_map.specs.Limits.{IsQpSize}
@@ -79,6 +79,7 @@ pub record Declared (d : Lines) (object : ℕ) (line : QpLine) : Type 0 where
   pub below : object - FIRST_QP < length d.qps
   pub small : IsQpSize line
   pub number : object < 2 ^ 24
+  pub low_start : line.start ≤ 2 ^ 32
   pub listed : IsLineOf d object line
 
 -- and its words
@@ -94,6 +95,7 @@ length_firsts n (x ∷ xs) = ap suc (length_firsts (n + x) xs)
 -- the limits of a declared queue pair
 record Limits (d : Lines) (n : ℕ) (line : QpLine) : Type 0 where
   few : length d.qps ≤ 64
+  low_start : line.start ≤ 2 ^ 32
   small : IsQpSize line
 
 small_line : (d : Lines) (l : QpLine) → IsTrue (is_qp_line d l) → IsQpSize l
@@ -108,6 +110,7 @@ limits_of d n line h below =
     let few = and_parts _ _ (and_parts _ _ eqs.0).0 in
     record {
       few = leb-true (length d.qps) 64 few.1;
+      low_start = leb-true (get_or d.qps n line).start (2 ^ 32) (and_parts _ _ (AllPass-from_list_all (is_qp_line d) d.qps qps.1 n line below)).1;
       small = small_line d (get_or d.qps n line) (AllPass-from_list_all (is_qp_line d) d.qps qps.1 n line below);
     }
 
@@ -122,6 +125,7 @@ declared d object line all among is =
       below = below;
       small = subst IsQpSize (sym is) limits.small;
       number = omega (arith, low, below, limits.few);
+      low_start = subst (λ (l : QpLine). l.start ≤ 2 ^ 32) (sym is) limits.low_start;
       listed = item_at d.qps (object - FIRST_QP) line below is;
     }
 
@@ -141,8 +145,17 @@ pub send_place_of : (d : Lines) (object first : ℕ) (line : QpLine) (p : WqPlac
 send_place_of d object first line p h first_is is = λ other listed.
     is ∙ (ap (λ (n : ℕ). place_from n line) first_is ∙ ap (place_from (first_word (map_of d) Qp object)) (same_line d object line other h.declared.listed listed))
 
+within_words : (d : Lines) (object : ℕ) (line : QpLine) → Declares d object line → IsWithin (words_of d) (place_from (first_word (map_of d) Qp object) line)
+within_words d object line h = record {
+  record_word = omega (arith, h.inside);
+  register = λ r is. let same : first_word (map_of d) Qp object + send_words line + receive_words line + 2 ≡ r = Some_same is in omega (arith, same, h.inside);
+}
+
+pub within_of : (d : Lines) (object first : ℕ) (line : QpLine) (p : WqPlace) → Declares d object line → first ≡ first_word (map_of d) Qp object → p ≡ place_from first line → IsWithin (words_of d) p
+within_of d object first line p h first_is is = subst (λ (q : WqPlace). IsWithin (words_of d) q) (sym (is ∙ ap (λ (n : ℕ). place_from n line) first_is)) (within_words d object line h)
+
 -- a new side
-module _ (d : Lines) (object : ℕ) (line : QpLine) (poster : PosterView) (p : WqPlace) (h : Declared d object line) (at_place : IsSendPlace d object p)
+module _ (d : Lines) (object : ℕ) (line : QpLine) (poster : PosterView) (p : WqPlace) (h : Declared d object line) (at_place : IsSendPlace d object p) (within : IsWithin (words_of d) p)
     (is : poster ≡ record { place = p; side = record { count = 0; index = line.start; first = 0; stage = Ready }; task = None; seen = 0 }) where
   placed : poster.place ≡ place_from (first_word (map_of d) Qp object) line
   placed = ap (λ (q : PosterView). q.place) is ∙ at_place line h.listed
@@ -157,9 +170,14 @@ module _ (d : Lines) (object : ℕ) (line : QpLine) (poster : PosterView) (p : W
   }
 
   pub fresh_new : IsFresh d object (record { poster = poster; number = object; call = None; dropped = false; noted = None })
-  fresh_new = λ other listed. record {
+  fresh_new = record {
     place = subst (λ (q : WqPlace). IsSendPlace d object q) (sym (ap (λ (q : PosterView). q.place) is)) at_place;
-    poster = ap (λ (q : PosterView). q.side) is ∙ ap (λ (l : QpLine). record { count = 0; index = l.start; first = 0; stage = Ready }) (same_line d object line other h.listed listed);
+    within = subst (λ (q : WqPlace). IsWithin (words_of d) q) (sym (ap (λ (q : PosterView). q.place) is)) within;
+    count = ap (λ (q : PosterView). q.side.count) is;
+    index = λ other listed. ap (λ (q : PosterView). q.side.index) is ∙ ap (λ (l : QpLine). l.start) (same_line d object line other h.listed listed);
+    index_low = subst (λ (n : ℕ). n ≤ 2 ^ 32) (sym (ap (λ (q : PosterView). q.side.index) is)) h.low_start;
+    first = ap (λ (q : PosterView). q.side.first) is;
+    stage = ap (λ (q : PosterView). q.side.stage) is;
     task = ap (λ (q : PosterView). q.task) is;
     seen = ap (λ (q : PosterView). q.seen) is;
     number = refl;

@@ -1,5 +1,5 @@
 -- Where the send queue of a declared queue pair lies.
-use Rattle.std.specs.Prelude.{ℕ, ◌≡◌, ◌+◌, ◌-◌, ◌*◌, ◌^◌, Some, slice_get}
+use Rattle.std.specs.Prelude.{ℕ, ◌≡◌, ◌+◌, ◌-◌, ◌*◌, ◌^◌, ◌<◌, Some, slice_get}
 use Rattle.verbs_model.specs.declared.declaration.Lines.{Lines}
 use Rattle.verbs_model.specs.declared.declaration.QpLine.{QpLine}
 use Rattle.verbs_model.specs.declared.declaration.TheConstants.{FIRST_QP}
@@ -28,3 +28,8 @@ IsLineOf d object line = slice_get d.qps (object - FIRST_QP) ≡ Some line
 
 abbrev pub IsSendPlace : Lines → ℕ → WqPlace → Type 0
 IsSendPlace d object place = (line : QpLine) → IsLineOf d object line → place ≡ place_from (first_word (map_of d) Qp object) line
+
+-- the highest words of a place are among so many
+pub record IsWithin (words : ℕ) (place : WqPlace) : Type 0 where
+  pub record_word : place.dbr < words
+  pub register : (r : ℕ) → place.reg ≡ Some r → r < words

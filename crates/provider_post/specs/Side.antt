@@ -1,5 +1,5 @@
 -- What a side that posts is to a caller, and what a turn of it does.
-use Rattle.std.specs.Prelude.{ℕ, ◌≡◌, ◌%◌, ◌^◌, ◌<◌, Bool, true, false, List, length, Option, Some, None, unwrap_or, slice_get}
+use Rattle.std.specs.Prelude.{ℕ, ◌≡◌, ◌%◌, ◌^◌, ◌≤◌, Bool, true, false, List, length, Option, Some, None, unwrap_or, slice_get}
 use Rattle.bus_core.specs.declared.operation.BusEntry.{BusEntry}
 use Rattle.bus_core.specs.declared.turn.Step.{Step}
 use Rattle.bus_core.specs.declared.turn.Note.{Note}
@@ -20,7 +20,8 @@ use Rattle.counted_ring.specs.Mark.{WqMark, Post}
 use Rattle.provider_post.specs.declared.call.Call.{Call}
 use Rattle.provider_post.specs.declared.told.Told.{Told}
 use Rattle.provider_post.specs.declared.answer.PostAnswer.{PostAnswer}
-use Rattle.provider_post.specs.Place.{IsLineOf, place_from, IsSendPlace}
+use Rattle.actor_map.specs.Sizes.{words_of}
+use Rattle.provider_post.specs.Place.{IsLineOf, IsSendPlace, IsWithin}
 use Rattle.provider_post.specs.Call.{mark_of, told_of, call_after, answer_after, left_after}
 use Rattle.provider_post.specs.Note.{note_of}
 
@@ -40,18 +41,20 @@ abbrev pub fresh_call : ℕ → Call
 fresh_call count = record { count = count; accepted = 0; refused = None; recorded = false }
 
 -- an idle side of a queue on which nothing was posted
-pub record IsFreshFor (d : Lines) (object : ℕ) (line : QpLine) (side : PostView) : Type 0 where
+pub record IsFresh (d : Lines) (object : ℕ) (side : PostView) : Type 0 where
   pub place : IsSendPlace d object side.poster.place
-  pub poster : side.poster.side ≡ record { count = 0; index = line.start; first = 0; stage = Ready }
+  pub within : IsWithin (words_of d) side.poster.place
+  pub count : side.poster.side.count ≡ 0
+  pub index : (line : QpLine) → IsLineOf d object line → side.poster.side.index ≡ line.start
+  pub index_low : side.poster.side.index ≤ 2 ^ 32
+  pub first : side.poster.side.first ≡ 0
+  pub stage : side.poster.side.stage ≡ Ready
   pub task : side.poster.task ≡ None
   pub seen : side.poster.seen ≡ 0
   pub number : side.number ≡ object
   pub call : side.call ≡ None
   pub dropped : side.dropped ≡ false
   pub noted : side.noted ≡ None
-
-abbrev pub IsFresh : Lines → ℕ → PostView → Type 0
-IsFresh d object side = (line : QpLine) → IsLineOf d object line → IsFreshFor d object line side
 
 abbrev pub forgotten : PostView → PostView
 forgotten v = record { poster = v.poster; number = v.number; call = None; dropped = true; noted = v.noted }

@@ -21,6 +21,7 @@ pub fn send_place(d: &Declared, map: &AddressMap, object: u32) -> WqPlace
     requires fits { words_of d.now ≤ 2 ^ 20 }
     ensures place { words.IsSendPlace d.now object result }
     ensures fine { IsPlace result }
+    ensures within { words.IsWithin (words_of d.now) result }
 {
     // The queue pair's words lie within the map.
     laws::whole();

@@ -10,11 +10,11 @@ invariant_of-result c =
     let list : c.as_slice.result.now ≡ c.args.d.now.qps = c.as_slice.ensures ∙ ap (λ (d : Lines). d.qps) c.lines.ensures.lines in
     let line = c.index-as_slice-object.result in
     let h = declared c.args.d.now c.args.object line c.lines.ensures.declared c.requires.object (c.index-as_slice-object.is ∙ ap (λ (l : List QpLine). get_or l (c.args.object - FIRST_QP) line) list) in
-    side_new c.args.d.now c.args.object line c.new.result c.send_place-place.result h c.send_place-place.ensures.place c.new.ensures
+    side_new c.args.d.now c.args.object line c.new.result c.send_place-place.result h c.send_place-place.ensures.place c.send_place-place.ensures.within c.new.ensures
 
 pub returns : goal.returns
 returns c =
     let list : c.as_slice.result.now ≡ c.args.d.now.qps = c.as_slice.ensures ∙ ap (λ (d : Lines). d.qps) c.lines.ensures.lines in
     let line = c.index-as_slice-object.result in
     let h = declared c.args.d.now c.args.object line c.lines.ensures.declared c.requires.object (c.index-as_slice-object.is ∙ ap (λ (l : List QpLine). get_or l (c.args.object - FIRST_QP) line) list) in
-    fresh_new c.args.d.now c.args.object line c.new.result c.send_place-place.result h c.send_place-place.ensures.place c.new.ensures
+    fresh_new c.args.d.now c.args.object line c.new.result c.send_place-place.result h c.send_place-place.ensures.place c.send_place-place.ensures.within c.new.ensures
