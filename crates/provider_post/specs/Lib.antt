@@ -1,0 +1,6 @@
+pub mod Place
+pub mod Call
+pub mod Note
+pub mod Side
+pub mod Begun
+pub mod Inside

@@ -1,0 +1,122 @@
+//! How far a call to post has come.
+ghost use Rattle.std.specs.Prelude.{◌≡◌, ◌<◌, ◌^◌};
+ghost use Rattle.provider_post.specs.Call as words;
+
+use crate::answer::{PostAnswer, Room};
+use crate::told::Told;
+use bus_core::Step;
+use counted_ring::Posted;
+
+/// How far a call to post has come.
+#[derive(Clone, Copy, Debug, PartialEq, Eq)]
+pub struct Call {
+    /// How many requests it has.
+    pub count: u32,
+    /// How many of them the queue took.
+    pub accepted: u32,
+    /// Why it took the next one not, where it was asked.
+    pub refused: Option<Room>,
+    /// The record was stored.
+    pub recorded: bool,
+}
+
+impl Call {
+    /// Whether no more request is to be written.
+    pub(crate) fn is_written(&self) -> bool
+        ensures { result ≡ words.is_written self.now }
+    {
+        self.accepted == self.count || self.refused.is_some()
+    }
+
+    /// What an operation tells that the poster answered so.
+    pub(crate) fn told(&self, answer: Step<(), Posted>) -> Told
+        ensures { result ≡ words.told_by self.now answer }
+    {
+        if self.is_written() {
+            if self.recorded {
+                Told::Nothing
+            } else {
+                Told::Rang
+            }
+        } else {
+            match answer {
+                Step::Done(Posted::Wrote) => Told::Wrote,
+                Step::Done(Posted::Full { head, tail }) => Told::Full { head, tail },
+                Step::Done(Posted::Rung) | Step::More | Step::Gave(()) => Told::Nothing,
+            }
+        }
+    }
+
+    /// The call after an operation that told this.
+    pub(crate) fn after(self, told: Told) -> Call
+        requires { self.accepted < 2 ^ 31 }
+        ensures { result ≡ words.call_after self told }
+    {
+        match told {
+            Told::Nothing => self,
+            Told::Wrote => Call {
+                count: self.count,
+                accepted: self.accepted + 1,
+                refused: self.refused,
+                recorded: self.recorded,
+            },
+            Told::Full { head, tail } => Call {
+                count: self.count,
+                accepted: self.accepted,
+                refused: Some(Room::Full { head, tail }),
+                recorded: self.recorded,
+            },
+            Told::Rang => Call {
+                count: self.count,
+                accepted: self.accepted,
+                refused: self.refused,
+                recorded: true,
+            },
+        }
+    }
+
+    /// Whether the operation between this and the next state of the call was its last: the register was
+    /// stored, or there is nothing to ring for.
+    fn is_last(&self, next: &Call) -> bool
+        ensures { result ≡ words.is_last self.now next.now }
+    {
+        self.recorded || (next.refused.is_some() && next.accepted == 0)
+    }
+
+    /// The call after an operation between this and its next state, if it goes on.
+    pub(crate) fn left(&self, next: Call) -> Option<Call>
+        ensures { result ≡ words.left_after self.now next }
+    {
+        if self.is_last(&next) {
+            None
+        } else {
+            Some(next)
+        }
+    }
+
+    /// What a side answers to that operation.
+    pub(crate) fn step(&self, next: &Call) -> Step<(), PostAnswer>
+        ensures { result ≡ words.answer_after self.now next.now }
+    {
+        if self.is_last(next) {
+            Step::Done(next.answer())
+        } else {
+            Step::More
+        }
+    }
+
+    /// What the call came to.
+    fn answer(&self) -> PostAnswer
+        ensures { result ≡ words.answer_of self.now }
+    {
+        match self.refused {
+            None => PostAnswer::All {
+                posted: self.accepted,
+            },
+            Some(why) => PostAnswer::Refused {
+                bad: self.accepted,
+                why,
+            },
+        }
+    }
+}
