@@ -2,3 +2,5 @@ mod Firsts
 mod Bounds
 mod Placing
 mod Objects
+mod Setting
+mod Starts

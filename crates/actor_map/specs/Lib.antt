@@ -4,3 +4,5 @@ pub mod Map
 pub mod Places
 pub mod Apart
 pub mod Faults
+pub mod Start
+pub mod Setting

@@ -8,9 +8,11 @@ pub mod laws;
 mod map;
 mod placed;
 mod sizes;
+mod start;
 #[cfg(test)]
 mod tests;
 
 pub use kind::ObjectKind;
 pub use map::{AddressMap, MapFault};
 pub use sizes::{FIRST_OBJECT, words};
+pub use start::set_starts;
