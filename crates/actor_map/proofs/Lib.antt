@@ -4,3 +4,5 @@ mod Placing
 mod Objects
 mod Setting
 mod Starts
+mod Pieces
+mod Named

@@ -6,3 +6,4 @@ pub mod Apart
 pub mod Faults
 pub mod Start
 pub mod Setting
+pub mod Started
