@@ -3,6 +3,7 @@
 //! stands.
 #![tactic(auto)]
 
+mod actor;
 mod kind;
 pub mod laws;
 mod map;
@@ -12,6 +13,7 @@ mod start;
 #[cfg(test)]
 mod tests;
 
+pub use actor::Actor;
 pub use kind::ObjectKind;
 pub use map::{AddressMap, MapFault};
 pub use sizes::{FIRST_OBJECT, words};

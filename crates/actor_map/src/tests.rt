@@ -1,4 +1,7 @@
-//! Maps of small and of large scenarios.
+//! Maps of small and of large scenarios, and the words with which their runs begin.
+
+mod actors;
+
 use crate::{AddressMap, MapFault, ObjectKind, set_starts, words};
 use bus_core::{BusPort, PlainBus};
 use std::alloc::Global;
