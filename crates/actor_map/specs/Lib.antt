@@ -6,4 +6,6 @@ pub mod Apart
 pub mod Faults
 pub mod Start
 pub mod Setting
+pub mod Notes
+pub mod Enough
 pub mod Started

@@ -1,5 +1,6 @@
 //! Laws of the map that hold with no code.
 ghost use Rattle.actor_map.specs.Apart.{AreApart, AreInside, IsWhole};
+ghost use Rattle.actor_map.specs.Enough.{AreEnough};
 ghost use Rattle.actor_map.specs.Started.{AreNamed, HaveStarts};
 
 /// Each object ends where the next begins or before: no word is in two objects.
@@ -26,4 +27,10 @@ pub fn starts()
 /// register.
 pub fn named()
     ensures { AreNamed }
+{}
+
+/// A note that fits its entry tells enough of what other actors did: a post has room, a full queue was seen as it
+/// is, and what the adapter takes was posted and what it writes has its place.
+pub fn enough()
+    ensures { AreEnough }
 {}
