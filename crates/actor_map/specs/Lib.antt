@@ -8,4 +8,5 @@ pub mod Start
 pub mod Setting
 pub mod Notes
 pub mod Enough
+pub mod Weight
 pub mod Started

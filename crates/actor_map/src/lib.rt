@@ -13,6 +13,7 @@ mod sizes;
 mod start;
 #[cfg(test)]
 mod tests;
+mod weight;
 
 pub use actor::Actor;
 pub use kind::ObjectKind;
@@ -20,3 +21,4 @@ pub use map::{AddressMap, MapFault};
 pub use note::{ACK, FETCH, POLL, POST, POST_FULL, PUBLISH, RETIRE};
 pub use sizes::{FIRST_OBJECT, words};
 pub use start::set_starts;
+pub use weight::notes;

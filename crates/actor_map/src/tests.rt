@@ -1,6 +1,7 @@
 //! Maps of small and of large scenarios, and the words with which their runs begin.
 
 mod actors;
+mod weights;
 
 use crate::{AddressMap, MapFault, ObjectKind, set_starts, words};
 use bus_core::{BusPort, PlainBus};
