@@ -1,10 +1,9 @@
-//! Maps of small and of large scenarios, and the words with which their runs begin.
+//! Maps of small and of large scenarios.
 
 mod actors;
 mod weights;
 
-use crate::{AddressMap, MapFault, ObjectKind, set_starts, words};
-use bus_core::{BusPort, PlainBus};
+use crate::{AddressMap, MapFault, ObjectKind, words};
 use std::alloc::Global;
 use std::process::Abort;
 use std::test::Fail;
@@ -168,33 +167,5 @@ fn most_words_are_mapped(rt: HostRuntime) -> Result<(), Fail> {
         Some(17_408 + 8_194 + 14 * 65_540)
     );
     assert_eq!(&rt; first(&map, ObjectKind::Cq, 15), None);
-    Ok(())
-}
-
-/// The first index of the completion queue passes 2^24, and the first counts of the queue pair pass 2^16.
-#[test]
-fn a_run_begins_with_unwritten_entries(rt: HostRuntime) -> Result<(), Fail> {
-    let mut cqs = Vec::new(rt.alloc());
-    let mut queue = completion_queue(rt.alloc(), 2, 2)?;
-    queue.start = 0x100_0003;
-    cqs.push(queue)?;
-    let mut qps = Vec::new(rt.alloc());
-    let mut pair = queue_pair(rt.alloc(), 2, 0, 1)?;
-    pair.start = 0x1_fffe;
-    qps.push(pair)?;
-    let declared = objects(rt.alloc(), 1, cqs, qps)?;
-    if words(&declared) > 20_000 {
-        panic!(&rt; "more words than the bus has");
-    }
-    let mut bus = PlainBus::new(rt.alloc(), 20_000, 10)?;
-    set_starts(&declared, 1, &mut bus);
-    assert_eq!(&rt; bus.load(0), 1);
-    assert_eq!(&rt; bus.load(5), 0x8000_0000);
-    assert_eq!(&rt; bus.load(17_423), 1);
-    assert_eq!(&rt; bus.load(17_433), 0xf0);
-    assert_eq!(&rt; bus.load(17_489), 0xf0);
-    assert_eq!(&rt; bus.load(17_490), 3);
-    assert_eq!(&rt; bus.load(17_492), u64::MAX);
-    assert_eq!(&rt; bus.load(17_660), 0xfffe);
     Ok(())
 }
