@@ -2,3 +2,7 @@ mod Firsts
 mod Bounds
 mod Placing
 mod Objects
+mod Setting
+mod Starts
+mod Pieces
+mod Named

@@ -4,3 +4,9 @@ pub mod Map
 pub mod Places
 pub mod Apart
 pub mod Faults
+pub mod Start
+pub mod Setting
+pub mod Notes
+pub mod Enough
+pub mod Weight
+pub mod Started

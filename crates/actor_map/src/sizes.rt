@@ -84,9 +84,23 @@ pub(crate) fn qp_words(line: &QpLine) -> u64
     requires limits { IsQpSize line.now }
     ensures { result ≡ sizes.qp_words line.now }
 {
+    send_words(line) + receive_words(line) + 3
+}
+
+pub(crate) fn send_words(line: &QpLine) -> u64
+    requires limits { IsQpSize line.now }
+    ensures { result ≡ sizes.send_words line.now }
+{
     let blocks = 4 * places(line.send_log);
+    (ENTRY + 2) * blocks + 1
+}
+
+pub(crate) fn receive_words(line: &QpLine) -> u64
+    requires limits { IsQpSize line.now }
+    ensures { result ≡ sizes.receive_words line.now }
+{
     let receives = places(line.recv_log);
-    (ENTRY + 2) * blocks + 1 + (stride(line.segments) + 1) * receives + 1 + 3
+    (stride(line.segments) + 1) * receives + 1
 }
 
 /// The words of a receive entry of so many scatter/gather entries: two each, rounded up to a power of two.
@@ -102,7 +116,7 @@ pub(crate) fn stride(segments: u32) -> u64
 }
 
 /// 2^`log`.
-fn places(log: u32) -> u64
+pub(crate) fn places(log: u32) -> u64
     requires { log ≤ 12 }
     ensures { result ≡ 2 ^ log }
 {

@@ -1,4 +1,8 @@
 //! Maps of small and of large scenarios.
+
+mod actors;
+mod weights;
+
 use crate::{AddressMap, MapFault, ObjectKind, words};
 use std::alloc::Global;
 use std::process::Abort;

@@ -1,0 +1,66 @@
+-- The note of an entry, and when a note fits an entry in a state.
+use Rattle.std.specs.Prelude.{ℕ, ◌≡◌, ◌+◌, ◌-◌, ◌*◌, ◌<◌, ◌≤◌, ◌==◌, IsTrue, MatchBool, length}
+use Rattle.bus_core.specs.declared.turn.Note.{Note}
+use Rattle.verbs_model.specs.declared.completion.Queue.{Queue}
+use Rattle.verbs_model.specs.declared.completion.Queue.TheVariants.{Send, Recv, Shared}
+use Rattle.verbs_model.specs.declared.entry.Entry.{Entry}
+use Rattle.verbs_model.specs.declared.entry.What.{What}
+use Rattle.verbs_model.specs.declared.entry.What.TheVariants.{Post, PostFull, Poll, Retire, Ack, Fetch, Publish}
+use Rattle.verbs_model.specs.Rules.{objects_live}
+use Rattle.verbs_model.specs.State.{WorkQueue, CompletionQueue, Verbs}
+use Rattle.actor_map.specs.declared.note.TheConstants.{POST, POST_FULL, POLL, RETIRE, ACK, FETCH, PUBLISH}
+
+-- the number of a work queue in a note, which tells the queue
+abbrev pub queue_number : Queue → ℕ
+queue_number (Send qp) = 4 * qp
+queue_number (Recv qp) = 4 * qp + 1
+queue_number (Shared srq) = 4 * srq + 2
+
+-- The note of an entry whose maker saw this count of another actor. A retirement and an acknowledgement have none.
+abbrev pub note_of : What → ℕ → Note
+note_of (Post queue items) seen = record { kind = POST; object = queue_number queue; a = length items; b = seen; c = 0; d = 0 }
+note_of (PostFull queue pending head tail) seen = record { kind = POST_FULL; object = queue_number queue; a = pending; b = head; c = seen; d = 0 }
+note_of (Poll cq most completions) seen = record { kind = POLL; object = cq; a = most; b = length completions; c = seen; d = 0 }
+note_of (Retire queue count) seen = record { kind = RETIRE; object = queue_number queue; a = count; b = 0; c = 0; d = 0 }
+note_of (Ack cq index) seen = record { kind = ACK; object = cq; a = index; b = 0; c = 0; d = 0 }
+note_of (Fetch queue number) seen = record { kind = FETCH; object = queue_number queue; a = number; b = seen; c = 0; d = 0 }
+note_of (Publish cq completion) seen = record { kind = PUBLISH; object = cq; a = seen; b = 0; c = 0; d = 0 }
+
+-- Retired requests that were seen leave room for the list: what was seen may be old, since the count only rises.
+pub record LeavesRoom (u : WorkQueue) (items seen : ℕ) : Type 0 where
+  pub least : seen ≤ u.retired
+  pub enough : length u.posted + items - seen ≤ u.room
+
+-- completions that were seen as published are as many as the poll takes
+pub record ShowsTaken (c : CompletionQueue) (taken seen : ℕ) : Type 0 where
+  pub least : seen ≤ c.produced
+  pub enough : c.produced - length c.unpolled + taken ≤ seen
+
+-- requests that were seen as posted are as many as the adapter takes
+pub record ShowsPosted (u : WorkQueue) (number seen : ℕ) : Type 0 where
+  pub least : seen ≤ length u.posted
+  pub enough : number ≤ seen
+
+-- acknowledged completions that were seen leave room for one more
+pub record LeavesPlace (c : CompletionQueue) (seen : ℕ) : Type 0 where
+  pub least : seen ≤ c.acked
+  pub enough : c.produced - seen < c.size
+
+-- The count that was seen serves for the entry. A full queue and a short poll are told only by the very count of the state; for the others a count that other actors have passed meanwhile serves too.
+abbrev pub Serves : Verbs → What → ℕ → Type 0
+Serves v (Post queue items) seen = LeavesRoom (v.queues queue) (length items) seen
+Serves v (PostFull queue pending head tail) seen = seen ≡ (v.queues queue).retired
+Serves v (Poll cq most completions) seen = MatchBool (length completions == most) (ShowsTaken (v.completions cq) (length completions) seen) (seen ≡ (v.completions cq).produced)
+Serves v (Retire queue count) seen = Unit {0}
+Serves v (Ack cq index) seen = Unit {0}
+Serves v (Fetch queue number) seen = ShowsPosted (v.queues queue) number seen
+Serves v (Publish cq completion) seen = LeavesPlace (v.completions cq) seen
+
+-- The note is one of the entry, whose objects live, and what it says to have seen serves.
+pub record FitsWith (v : Verbs) (note : Note) (e : Entry) (seen : ℕ) : Type 0 where
+  pub live : IsTrue (objects_live v e.what)
+  pub note_is : note ≡ note_of e.what seen
+  pub serves : Serves v e.what seen
+
+abbrev pub Fits : Verbs → Note → Entry → Type 0
+Fits v note e = (seen : ℕ) × FitsWith v note e seen
