@@ -1,18 +1,20 @@
--- The notes of a post.
+-- The notes of a post, as those of its entries are.
 use Rattle.std.specs.Prelude.{ℕ, Option, Some, None}
 use Rattle.bus_core.specs.declared.turn.Note.{Note}
+use Rattle.actor_map.specs.Notes.{queue_number}
+use Rattle.actor_map.specs.declared.note.TheConstants.{POST, POST_FULL}
+use Rattle.verbs_model.specs.declared.completion.Queue.TheVariants.{Send}
 use Rattle.provider_post.specs.declared.call.Call.{Call}
-use Rattle.provider_post.specs.declared.note.TheConstants.{POST, POST_FULL}
 use Rattle.provider_post.specs.declared.told.Told.{Told}
 use Rattle.provider_post.specs.declared.told.Told.TheVariants.{Nothing, Wrote, Full, Rang}
 
 -- a post of the requests that were written, which saw this tail
 abbrev pub post_note : ℕ → Call → ℕ → Note
-post_note number c seen = record { kind = POST; object = number; a = seen; b = c.accepted; c = 0; d = 0 }
+post_note number c seen = record { kind = POST; object = queue_number (Send number); a = c.accepted; b = seen; c = 0; d = 0 }
 
 -- a queue that is full of `head` requests less `tail`
 abbrev pub full_note : ℕ → Call → ℕ → ℕ → Note
-full_note number c head tail = record { kind = POST_FULL; object = number; a = tail; b = head; c = c.accepted; d = 0 }
+full_note number c head tail = record { kind = POST_FULL; object = queue_number (Send number); a = c.accepted; b = head; c = tail; d = 0 }
 
 -- the store of the record and the load of a tail that shows the queue full have notes
 abbrev pub note_of : ℕ → Call → Told → ℕ → Option Note

@@ -17,6 +17,5 @@ mod told;
 
 pub use answer::{PostAnswer, Room};
 pub use call::Call;
-pub use note::{POST, POST_FULL};
 pub use place::send_place;
 pub use post::PostSide;
