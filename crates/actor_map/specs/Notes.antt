@@ -16,6 +16,10 @@ queue_number (Send qp) = 4 * qp
 queue_number (Recv qp) = 4 * qp + 1
 queue_number (Shared srq) = 4 * srq + 2
 
+-- the note of an entry that is not built
+abbrev pub no_note : Note
+no_note = record { kind = 0; object = 0; a = 0; b = 0; c = 0; d = 0 }
+
 -- The note of an entry whose maker saw this count of another actor. A retirement and an acknowledgement have none.
 abbrev pub note_of : What → ℕ → Note
 note_of (Post queue items) seen = record { kind = POST; object = queue_number queue; a = length items; b = seen; c = 0; d = 0 }
@@ -25,6 +29,7 @@ note_of (Retire queue count) seen = record { kind = RETIRE; object = queue_numbe
 note_of (Ack cq index) seen = record { kind = ACK; object = cq; a = index; b = 0; c = 0; d = 0 }
 note_of (Fetch queue number) seen = record { kind = FETCH; object = queue_number queue; a = number; b = seen; c = 0; d = 0 }
 note_of (Publish cq completion) seen = record { kind = PUBLISH; object = cq; a = seen; b = 0; c = 0; d = 0 }
+note_of _ seen = no_note
 
 -- Retired requests that were seen leave room for the list: what was seen may be old, since the count only rises.
 pub record LeavesRoom (u : WorkQueue) (items seen : ℕ) : Type 0 where
@@ -46,7 +51,7 @@ pub record LeavesPlace (c : CompletionQueue) (seen : ℕ) : Type 0 where
   pub least : seen ≤ c.acked
   pub enough : c.produced - seen < c.size
 
--- The count that was seen serves for the entry. A full queue and a short poll are told only by the very count of the state; for the others a count that other actors have passed meanwhile serves too.
+-- The count that was seen serves for the entry. A full queue and a short poll are told only by the very count of the state; for the others a count that other actors have passed meanwhile serves too. None serves for an entry that is not built.
 abbrev pub Serves : Verbs → What → ℕ → Type 0
 Serves v (Post queue items) seen = LeavesRoom (v.queues queue) (length items) seen
 Serves v (PostFull queue pending head tail) seen = seen ≡ (v.queues queue).retired
@@ -55,6 +60,7 @@ Serves v (Retire queue count) seen = Unit {0}
 Serves v (Ack cq index) seen = Unit {0}
 Serves v (Fetch queue number) seen = ShowsPosted (v.queues queue) number seen
 Serves v (Publish cq completion) seen = LeavesPlace (v.completions cq) seen
+Serves v _ seen = ⊥
 
 -- The note is one of the entry, whose objects live, and what it says to have seen serves.
 pub record FitsWith (v : Verbs) (note : Note) (e : Entry) (seen : ℕ) : Type 0 where

@@ -8,7 +8,7 @@ use Rattle.verbs_model.specs.declared.request.Op.{Op}
 use Rattle.verbs_model.specs.declared.request.Op.TheVariants.{Cas, Faa}
 use Rattle.verbs_model.specs.declared.request.Request.{Request}
 use Rattle.verbs_model.specs.declared.call.Call.{Call}
-use Rattle.verbs_model.specs.declared.call.Call.TheVariants.{Post, Poll, Drain}
+use Rattle.verbs_model.specs.declared.call.Call.TheVariants.{Post, Recv, Poll, Drain}
 use Rattle.verbs_model.specs.declared.declaration.Lines.{Lines}
 
 -- how many bytes a body has
@@ -27,6 +27,7 @@ request_weight r = 16 + 4 * moved r.op r.body
 
 abbrev pub call_weight : Call → ℕ
 call_weight (Post qp requests) = 8 + sum_by request_weight requests
+call_weight (Recv qp receives) = 8 + 8 * length receives
 call_weight (Poll cq most) = 8 + 4 * most
 call_weight (Drain cq count) = 8 + 6 * count
 

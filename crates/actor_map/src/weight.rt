@@ -24,6 +24,9 @@ const POLLED: u64 = 4;
 
 const DRAINED: u64 = 6;
 
+/// For each receive.
+const RECEIVE: u64 = 8;
+
 /// For each request, beside its bytes, and for each byte.
 const REQUEST: u64 = 16;
 
@@ -70,6 +73,11 @@ fn of_call(call: &Call) -> u64
 {
     match call {
         Call::Post { requests, .. } => of_requests(requests.as_slice()).saturating_add(CALL),
+        Call::Recv { receives, .. } => {
+            (receives.len() as u64)
+                .saturating_mul(RECEIVE)
+                .saturating_add(CALL)
+        }
         Call::Poll { max, .. } => CALL + POLLED * *max as u64,
         Call::Drain { count, .. } => CALL + DRAINED * *count as u64,
     }

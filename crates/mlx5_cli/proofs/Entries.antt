@@ -1,7 +1,7 @@
 -- The entries of a run are of declared actors and name declared objects.
 use Rattle.std.proofs.Common.{◌≡◌, ℕ, zero, suc, ◌+◌, ◌≤◌, List, [], ◌∷◌, length, All, IsTrue, inl, inr, ⊎_elim, replicate, refl, sym, subst, arith}
 use Rattle.std.specs.List.{flat_map, list_all, range_with_len}
-use Rattle.std.proofs.lemmas.Bool.{and_parts}
+use Rattle.std.proofs.lemmas.Bool.{and_parts, false≢true}
 use Rattle.std.proofs.lemmas.Bool.Decides.{nat_tests}
 use Rattle.std.proofs.lemmas.List.Elements.{All-append, All-cons, All-head, All-replicate, All-tail}
 use Rattle.verbs_model.specs.declared.completion.Completion.{Completion}
@@ -11,7 +11,7 @@ use Rattle.verbs_model.specs.declared.declaration.Lines.{Lines}
 use Rattle.verbs_model.specs.declared.declaration.TheConstants.{FIRST_QP}
 use Rattle.verbs_model.specs.declared.entry.Entry.{Entry}
 use Rattle.verbs_model.specs.declared.entry.What.{What}
-use Rattle.verbs_model.specs.declared.entry.What.TheVariants.{Post, PostFull, Poll, Retire, Ack, Fetch, Publish}
+use Rattle.verbs_model.specs.declared.entry.What.TheVariants.{Post, PostFull, Poll, Retire, Free, Ack, Arm, TakeEvent, Submit, Reply, ReadByte, WriteByte, Clean, Fetch, TakeReceive, GetByte, PutByte, Publish, SeeArm, Event, Overrun, Lost, Execute}
 use Rattle.verbs_model.specs.Legal.{IsLegal}
 use Rattle.verbs_model.specs.Lines.{is_among}
 use Rattle.verbs_model.specs.Rows.{publish}
@@ -52,6 +52,22 @@ lives_after d v (Fetch (Send qp) number) l = record { pairs = l.pairs; completio
 lives_after d v (Fetch (Recv qp) number) l = l
 lives_after d v (Fetch (Shared srq) number) l = l
 lives_after d v (Publish cq completion) l = lives_published d v cq v.owed l
+lives_after d v (Free srq) l = l
+lives_after d v (Arm cq kind index number) l = l
+lives_after d v (TakeEvent eq event) l = l
+lives_after d v (Submit command) l = l
+lives_after d v (Reply command answer) l = l
+lives_after d v (ReadByte addr byte) l = l
+lives_after d v (WriteByte addr byte) l = l
+lives_after d v (Clean cq qp index) l = l
+lives_after d v (TakeReceive queue) l = l
+lives_after d v (GetByte addr byte) l = l
+lives_after d v (PutByte addr byte) l = l
+lives_after d v (SeeArm cq kind index number) l = l
+lives_after d v (Event eq event) l = l
+lives_after d v (Overrun cq index acked) l = l
+lives_after d v (Lost cq) l = l
+lives_after d v (Execute of command answer) l = l
 
 module _ (d : Lines) (v : Verbs) (l : Lives d v) where
   pair_declared : (qp : ℕ) → IsTrue (v.pair_lives qp) → IsTrue (is_among FIRST_QP (length d.qps) qp)
@@ -86,6 +102,22 @@ module _ (d : Lines) (v : Verbs) (l : Lives d v) where
   objects_declared (Publish cq completion) h =
       let parts = and_parts (v.completions_live cq) (names_living v completion) h in
       (cq_declared cq parts.0, completion_declared completion parts.1)
+  objects_declared (Free srq) h = absurd (false≢true h)
+  objects_declared (Arm cq kind index number) h = absurd (false≢true h)
+  objects_declared (TakeEvent eq event) h = absurd (false≢true h)
+  objects_declared (Submit command) h = absurd (false≢true h)
+  objects_declared (Reply command answer) h = absurd (false≢true h)
+  objects_declared (ReadByte addr byte) h = absurd (false≢true h)
+  objects_declared (WriteByte addr byte) h = absurd (false≢true h)
+  objects_declared (Clean cq qp index) h = absurd (false≢true h)
+  objects_declared (TakeReceive queue) h = absurd (false≢true h)
+  objects_declared (GetByte addr byte) h = absurd (false≢true h)
+  objects_declared (PutByte addr byte) h = absurd (false≢true h)
+  objects_declared (SeeArm cq kind index number) h = absurd (false≢true h)
+  objects_declared (Event eq event) h = absurd (false≢true h)
+  objects_declared (Overrun cq index acked) h = absurd (false≢true h)
+  objects_declared (Lost cq) h = absurd (false≢true h)
+  objects_declared (Execute of command answer) h = absurd (false≢true h)
 
 -- an entry that has a step names living objects
 living : (v : Verbs) (e : Entry) → MayStep v e → IsTrue (objects_live v e.what)

@@ -5,7 +5,7 @@ use Rattle.std.proofs.lemmas.Bool.{or_cases, cases_eq, eqb-true}
 use Rattle.std.proofs.lemmas.List.Elements.{All-head, All-tail}
 use Rattle.std.proofs.lemmas.Option.{same_Some}
 use Rattle.verbs_model.specs.declared.call.Call.{Call}
-use Rattle.verbs_model.specs.declared.call.Call.TheVariants.{Post, Poll, Drain}
+use Rattle.verbs_model.specs.declared.call.Call.TheVariants.{Post, Recv, Poll, Drain}
 use Rattle.verbs_model.specs.declared.declaration.TheConstants.{FIRST_QP}
 use Rattle.scenario_text.specs.After.{change}
 use Rattle.scenario_text.specs.Calls.{IsOfOneThread, posts_on, polls_on}
@@ -37,6 +37,7 @@ pub record KeepSides (pairs pairs_now : List PairUse) (queues queues_now : List 
 pub held_kept : (pairs pairs_now : List PairUse) (queues queues_now : List QueueUse) → KeepSides pairs pairs_now queues queues_now → (thread : ℕ) (call : Call) → IsHeld pairs queues thread call
     → IsHeld pairs_now queues_now thread call
 held_kept pairs pairs_now queues queues_now keep thread (Post qp requests) h = keep.posters (qp - FIRST_QP) thread h
+held_kept pairs pairs_now queues queues_now keep thread (Recv qp receives) h = absurd h
 held_kept pairs pairs_now queues queues_now keep thread (Poll cq most) h = keep.pollers cq thread h
 held_kept pairs pairs_now queues queues_now keep thread (Drain cq count) h = keep.pollers cq thread h
 
@@ -49,6 +50,7 @@ module _ (pairs : List PairUse) (queues : List QueueUse) (thread : ℕ) where
     where
       here : (call : Call) → IsHeld pairs queues thread call → IsTrue (posts_on q call) → poster_at pairs (q - FIRST_QP) ≡ Some thread
       here (Post qp requests) held on = ap (λ k. poster_at pairs (k - FIRST_QP)) (sym (eqb-true qp q on)) ∙ held
+      here (Recv qp receives) held on = absurd held
       here (Poll cq most) held on = absurd (true≢false (sym on))
       here (Drain cq count) held on = absurd (true≢false (sym on))
 
@@ -59,6 +61,7 @@ module _ (pairs : List PairUse) (queues : List QueueUse) (thread : ℕ) where
     where
       here : (call : Call) → IsHeld pairs queues thread call → IsTrue (polls_on q call) → poller_at queues q ≡ Some thread
       here (Post qp requests) held on = absurd (true≢false (sym on))
+      here (Recv qp receives) held on = absurd held
       here (Poll cq most) held on = ap (poller_at queues) (sym (eqb-true cq q on)) ∙ held
       here (Drain cq count) held on = ap (poller_at queues) (sym (eqb-true cq q on)) ∙ held
 

@@ -93,6 +93,7 @@ room_at queues place = (unwrap_or (slice_get queues place) (record { poller = No
 -- the thread with this number has the side of the queue that the call uses
 abbrev pub IsHeld : List PairUse → List QueueUse → ℕ → Call → Type 0
 IsHeld pairs queues thread (calls.Post qp requests) = poster_at pairs (qp - FIRST_QP) ≡ Some thread
+IsHeld pairs queues thread (calls.Recv qp receives) = ⊥
 IsHeld pairs queues thread (calls.Poll cq most) = poller_at queues cq ≡ Some thread
 IsHeld pairs queues thread (calls.Drain cq count) = poller_at queues cq ≡ Some thread
 

@@ -3,7 +3,7 @@ use Rattle.std.specs.Prelude.{ℕ, ◌≡◌, ◌^◌, ◌<◌, ◌≤◌, ◌==
 use Rattle.std.specs.List.{list_any}
 use Rattle.verbs_model.specs.Lines.{is_among}
 use Rattle.verbs_model.specs.declared.call.Call.{Call}
-use Rattle.verbs_model.specs.declared.call.Call.TheVariants.{Post, Poll, Drain}
+use Rattle.verbs_model.specs.declared.call.Call.TheVariants.{Post, Recv, Poll, Drain}
 use Rattle.verbs_model.specs.declared.request.Body.TheVariants.{Sges}
 use Rattle.verbs_model.specs.declared.request.Op.TheVariants.{Nop}
 use Rattle.verbs_model.specs.declared.request.Request.{Request}
@@ -21,8 +21,10 @@ IsPlainNop r = (r.op ≡ Nop) × (r.body ≡ Sges []) × (r.id < 2 ^ 64)
 abbrev pub IsWithin : ℕ → ℕ → ℕ → Type 0
 IsWithin least most n = (least ≤ n) × (n ≤ most)
 
+-- a post of receives has no line yet
 abbrev pub IsCall : Lines → Call → Type 0
 IsCall d (Post qp requests) = IsTrue (is_among FIRST_QP (length d.qps) qp) × IsWithin 1 16 (length requests) × All IsPlainNop requests
+IsCall d (Recv qp receives) = ⊥
 IsCall d (Poll cq most) = IsTrue (is_among 0 (length d.cqs) cq) × IsWithin 1 16 most
 IsCall d (Drain cq count) = IsTrue (is_among 0 (length d.cqs) cq) × IsWithin 1 65536 count
 
@@ -31,11 +33,13 @@ IsProgram d calls = (length calls ≤ 65536) × All (IsCall d) calls
 
 abbrev pub posts_on : ℕ → Call → Bool
 posts_on q (Post qp requests) = qp == q
+posts_on q (Recv qp receives) = false
 posts_on q (Poll cq most) = false
 posts_on q (Drain cq count) = false
 
 abbrev pub polls_on : ℕ → Call → Bool
 polls_on c (Post qp requests) = false
+polls_on c (Recv qp receives) = false
 polls_on c (Poll cq most) = cq == c
 polls_on c (Drain cq count) = cq == c
 

@@ -2,7 +2,7 @@
 use Rattle.std.specs.Prelude.{ℕ, zero, suc, ◌+◌, ◌*◌, ◌==◌, if◌then◌else◌, List, [], ◌∷◌, ◌++◌, length, Option, None, Some, replicate}
 use Rattle.std.specs.List.{flat_map, sum_by, range_with_len}
 use Rattle.verbs_model.specs.declared.call.Call.{Call}
-use Rattle.verbs_model.specs.declared.call.Call.TheVariants.{Post, Poll, Drain}
+use Rattle.verbs_model.specs.declared.call.Call.TheVariants.{Post, Recv, Poll, Drain}
 use Rattle.verbs_model.specs.declared.declaration.QpLine.{QpLine}
 use Rattle.scenario_text.specs.declared.scenario.Plan.{Plan}
 use Rattle.scenario_text.specs.declared.scenario.Plan.TheVariants.{Idle, Schedule, Rounds}
@@ -37,6 +37,7 @@ turn_count threads (Rounds n) = n * (threads + 1)
 -- the requests of a call on this queue pair
 abbrev pub posted_by : ℕ → Call → ℕ
 posted_by q (Post qp requests) = if qp == q then length requests else 0
+posted_by q (Recv qp receives) = 0
 posted_by q (Poll cq most) = 0
 posted_by q (Drain cq count) = 0
 

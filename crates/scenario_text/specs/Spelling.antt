@@ -2,18 +2,19 @@
 use Rattle.std.specs.Prelude.{ℕ, zero, suc, List, [], ◌∷◌, ◌++◌, map, codes, decimal, Option, None, Some}
 use Rattle.std.specs.List.{flat_map}
 use Rattle.verbs_model.specs.declared.call.Call.{Call}
-use Rattle.verbs_model.specs.declared.call.Call.TheVariants.{Post, Poll, Drain}
+use Rattle.verbs_model.specs.declared.call.Call.TheVariants.{Post, Recv, Poll, Drain}
 use Rattle.verbs_model.specs.declared.declaration.Lines.{Lines}
 use Rattle.scenario_text.specs.declared.scenario.Plan.{Plan}
 use Rattle.scenario_text.specs.declared.scenario.Plan.TheVariants.{Idle, Schedule, Rounds}
 use Rattle.scenario_text.specs.declared.scenario.PlanItem.{PlanItem}
 use Rattle.scenario_text.specs.declared.scenario.ScenarioParts.{ScenarioParts}
-use Rattle.scenario_text.specs.Requests.{line, request_fields}
+use Rattle.scenario_text.specs.Requests.{line, request_fields, receive_fields}
 use Rattle.scenario_text.specs.Heads.{text_at, cq_name, qp_name, head_text}
 
 -- the lines of a call, field by field
 abbrev pub call_lines : Lines → Call → List (List (List ℕ))
 call_lines d (Post qp requests) = (codes "post" ∷ qp_name d qp ∷ []) ∷ map request_fields requests
+call_lines d (Recv qp receives) = (codes "recv" ∷ qp_name d qp ∷ []) ∷ map receive_fields receives
 call_lines d (Poll cq most) = (codes "poll" ∷ cq_name d cq ∷ decimal most ∷ []) ∷ []
 call_lines d (Drain cq count) = (codes "drain" ∷ cq_name d cq ∷ decimal count ∷ []) ∷ []
 

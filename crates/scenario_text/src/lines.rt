@@ -1,11 +1,11 @@
 //! Readers of lines, fields, names, numbers and hexadecimal digits.
 ghost use Rattle.std.specs.Prelude.{◌≡◌};
 ghost use Rattle.std.specs.List.{list_all};
-ghost use Rattle.verbs_model.specs.Names as names;
 ghost use Rattle.scenario_text.specs.Text as text;
 
 pub use crate::parts::{LINE_END, Parts, SPACE, cut, has_parts, part};
 use std::str;
+pub use verbs_model::is_name;
 
 /// Whether all bytes are of a text: 0x20 to 0x7e.
 pub fn are_text_bytes(line: &[u8]) -> bool
@@ -28,28 +28,6 @@ pub fn is_skipped(line: &[u8]) -> bool
         Some(byte) => *byte == b'#',
         None => true,
     }
-}
-
-/// Whether a field is a name: 1 to 16 of `a` to `z`, `0` to `9` and `_`, the first a letter.
-pub fn is_name(field: &[u8]) -> bool
-    ensures { result ≡ names.is_name field.now }
-{
-    match field.first() {
-        Some(first) => first.is_ascii_lowercase() && field.len() <= 16 && has_name_bytes(field),
-        None => false,
-    }
-}
-
-fn has_name_bytes(field: &[u8]) -> bool
-    ensures { result ≡ list_all names.is_name_byte field.now }
-{
-    field.iter().all(|byte| is_name_byte(*byte))
-}
-
-fn is_name_byte(byte: u8) -> bool
-    ensures { result ≡ names.is_name_byte byte }
-{
-    byte.is_ascii_lowercase() || byte.is_ascii_digit() || byte == b'_'
 }
 
 /// Whether there are digits and nothing else.

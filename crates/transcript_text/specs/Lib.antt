@@ -1,4 +1,5 @@
 pub mod Fields
 pub mod Numbers
+pub mod Commands
 pub mod History
 pub mod Trace

@@ -3,7 +3,7 @@ ghost use Rattle.std.specs.Prelude.{◌≡◌, ◌++◌, codes, OnOk};
 ghost use Rattle.transcript_text.specs.Numbers.{IsQueue, IsCompletion};
 ghost use Rattle.transcript_text.specs.History as texts;
 
-use crate::names::qp_name;
+use crate::names::{qp_name, srq_name};
 use crate::writer::TextWriter;
 use verbs_model::{Completion, Kind, Lines, NoMemory, Queue};
 
@@ -21,7 +21,7 @@ pub(crate) fn put_queue(out: &mut TextWriter, lines: &Lines, queue: Queue) -> Re
             out.put_field(qp_name(lines, qp))?;
             out.put_bytes(b".r")
         }
-        Queue::Shared(_) => unreachable!(),
+        Queue::Shared(srq) => out.put_field(srq_name(lines, srq)),
     }
 }
 

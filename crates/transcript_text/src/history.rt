@@ -50,7 +50,12 @@ pub(crate) fn put_end(out: &mut TextWriter, count: u64) -> Result<(), NoMemory>
     out.end_line()
 }
 
-fn put_entries(out: &mut TextWriter, lines: &Lines, history: &[Entry]) -> Result<(), NoMemory>
+/// Adds a line an entry.
+pub(crate) fn put_entries(
+    out: &mut TextWriter,
+    lines: &Lines,
+    history: &[Entry],
+) -> Result<(), NoMemory>
     requires { All (IsEntry lines.now) history.now }
     ensures { OnOk result (out.new ≡ out.old ++ flat_map (texts.entry_text lines.now) history.now) }
 {

@@ -1,10 +1,17 @@
 //! Transcripts: the texts of a history and of a trace, and the writers that they are made with.
 #![tactic(auto)]
 
+mod byte_row;
+mod command;
+mod command_row;
 mod completion;
+mod completion_row;
+mod event_row;
 mod head;
 mod history;
+mod key;
 mod names;
+mod queue_row;
 mod request;
 mod row;
 mod trace;

@@ -1,15 +1,15 @@
-//! What an entry says: one function a row.
-ghost use Rattle.std.specs.Prelude.{◌≡◌, ◌++◌, map, All, OnOk};
-ghost use Rattle.verbs_model.specs.declared.entry.What.TheVariants as what;
-ghost use Rattle.transcript_text.specs.Numbers.{IsCq, IsQueue, IsCompletion, NamesDeclared};
-ghost use Rattle.transcript_text.specs.Fields.{spaced, row_text};
-ghost use Rattle.transcript_text.specs.History as texts;
+//! What an entry says.
+ghost use Rattle.std.specs.Prelude.{◌≡◌, ◌++◌, OnOk};
+ghost use Rattle.transcript_text.specs.Numbers.{NamesDeclared};
+ghost use Rattle.transcript_text.specs.Fields.{row_text};
 
-use crate::completion::{put_completion, put_queue};
-use crate::names::cq_name;
-use crate::request::put_items;
+use crate::byte_row::put_byte_row;
+use crate::command_row::{put_execute, put_reply, put_submit};
+use crate::completion_row::{put_ack, put_clean, put_lost, put_overrun, put_poll, put_publish};
+use crate::event_row::{put_arm, put_notify, put_take_event};
+use crate::queue_row::{put_fetch, put_free, put_full, put_post, put_retire, put_take};
 use crate::writer::TextWriter;
-use verbs_model::{Completion, Item, Lines, NoMemory, Queue, What};
+use verbs_model::{Lines, NoMemory, What};
 
 /// Adds the fields of a line after its actor.
 pub(crate) fn put_what(out: &mut TextWriter, lines: &Lines, what: &What) -> Result<(), NoMemory>
@@ -30,118 +30,38 @@ pub(crate) fn put_what(out: &mut TextWriter, lines: &Lines, what: &What) -> Resu
             completions,
         } => put_poll(out, lines, *cq, *max, completions.as_slice()),
         What::Retire { queue, count } => put_retire(out, lines, *queue, *count),
+        What::Free { srq } => put_free(out, lines, *srq),
         What::Ack { cq, index } => put_ack(out, lines, *cq, *index),
+        What::Arm {
+            cq,
+            kind,
+            index,
+            number,
+        } => put_arm(out, lines, b"arm", *cq, *kind, *index, *number),
+        What::TakeEvent { eq, event } => put_take_event(out, lines, *eq, *event),
+        What::Submit { command } => put_submit(out, lines, command),
+        What::Reply { command, answer } => put_reply(out, lines, command, *answer),
+        What::ReadByte { addr, byte } => put_byte_row(out, b"read", *addr, *byte),
+        What::WriteByte { addr, byte } => put_byte_row(out, b"write", *addr, *byte),
+        What::Clean { cq, qp, index } => put_clean(out, lines, *cq, *qp, *index),
         What::Fetch { queue, number } => put_fetch(out, lines, *queue, *number),
+        What::TakeReceive { queue } => put_take(out, lines, *queue),
+        What::GetByte { addr, byte } => put_byte_row(out, b"get", *addr, *byte),
+        What::PutByte { addr, byte } => put_byte_row(out, b"put", *addr, *byte),
         What::Publish { cq, completion } => put_publish(out, lines, *cq, completion),
+        What::SeeArm {
+            cq,
+            kind,
+            index,
+            number,
+        } => put_arm(out, lines, b"seearm", *cq, *kind, *index, *number),
+        What::Event { eq, event } => put_notify(out, lines, *eq, *event),
+        What::Overrun { cq, index, acked } => put_overrun(out, lines, *cq, *index, *acked),
+        What::Lost { cq } => put_lost(out, lines, *cq),
+        What::Execute {
+            actor,
+            command,
+            answer,
+        } => put_execute(out, lines, *actor, command, *answer),
     }
-}
-
-fn put_post(
-    out: &mut TextWriter,
-    lines: &Lines,
-    queue: Queue,
-    items: &[Item],
-) -> Result<(), NoMemory>
-    requires { IsQueue lines.now queue }
-    ensures { OnOk result (out.new ≡ out.old ++ row_text lines.now (what.Post queue items.now)) }
-{
-    out.put_field(b"post")?;
-    put_queue(out, lines, queue)?;
-    put_items(out, items)
-}
-
-fn put_full(
-    out: &mut TextWriter,
-    lines: &Lines,
-    queue: Queue,
-    pending: u64,
-    head: u64,
-    tail: u64,
-) -> Result<(), NoMemory>
-    requires { IsQueue lines.now queue }
-    ensures { OnOk result (out.new ≡ out.old ++ row_text lines.now (what.PostFull queue pending head tail)) }
-{
-    out.put_field(b"full")?;
-    put_queue(out, lines, queue)?;
-    out.put_number_field(pending)?;
-    out.put_number_field(head)?;
-    out.put_number_field(tail)
-}
-
-fn put_poll(
-    out: &mut TextWriter,
-    lines: &Lines,
-    cq: u32,
-    max: u64,
-    completions: &[Completion],
-) -> Result<(), NoMemory>
-    requires cq { IsCq lines.now cq }
-    requires completions { All (IsCompletion lines.now) completions.now }
-    ensures { OnOk result (out.new ≡ out.old ++ row_text lines.now (what.Poll cq max completions.now)) }
-{
-    out.put_field(b"poll")?;
-    out.put_field(cq_name(lines, cq))?;
-    out.put_number_field(max)?;
-    if completions.is_empty() {
-        out.put_field(b"empty")
-    } else {
-        put_completions(out, lines, completions)
-    }
-}
-
-fn put_completions(
-    out: &mut TextWriter,
-    lines: &Lines,
-    completions: &[Completion],
-) -> Result<(), NoMemory>
-    requires { All (IsCompletion lines.now) completions.now }
-    ensures { OnOk result (out.new
-        ≡ out.old ++ spaced (map (texts.completion_text lines.now) completions.now)) }
-{
-    for completion in completions {
-        put_completion(out, lines, completion)?;
-    }
-    Ok(())
-}
-
-fn put_retire(out: &mut TextWriter, lines: &Lines, queue: Queue, count: u64) -> Result<(), NoMemory>
-    requires { IsQueue lines.now queue }
-    ensures { OnOk result (out.new ≡ out.old ++ row_text lines.now (what.Retire queue count)) }
-{
-    out.put_field(b"retire")?;
-    put_queue(out, lines, queue)?;
-    out.put_number_field(count)
-}
-
-fn put_ack(out: &mut TextWriter, lines: &Lines, cq: u32, index: u64) -> Result<(), NoMemory>
-    requires { IsCq lines.now cq }
-    ensures { OnOk result (out.new ≡ out.old ++ row_text lines.now (what.Ack cq index)) }
-{
-    out.put_field(b"ack")?;
-    out.put_field(cq_name(lines, cq))?;
-    out.put_number_field(index)
-}
-
-fn put_fetch(out: &mut TextWriter, lines: &Lines, queue: Queue, number: u64) -> Result<(), NoMemory>
-    requires { IsQueue lines.now queue }
-    ensures { OnOk result (out.new ≡ out.old ++ row_text lines.now (what.Fetch queue number)) }
-{
-    out.put_field(b"fetch")?;
-    put_queue(out, lines, queue)?;
-    out.put_number_field(number)
-}
-
-fn put_publish(
-    out: &mut TextWriter,
-    lines: &Lines,
-    cq: u32,
-    completion: &Completion,
-) -> Result<(), NoMemory>
-    requires cq { IsCq lines.now cq }
-    requires completion { IsCompletion lines.now completion.now }
-    ensures { OnOk result (out.new ≡ out.old ++ row_text lines.now (what.Publish cq completion.now)) }
-{
-    out.put_field(b"publish")?;
-    out.put_field(cq_name(lines, cq))?;
-    put_completion(out, lines, completion)
 }

@@ -129,7 +129,7 @@ fn put_one_word(out: &mut TextWriter, name: &[u8], addr: u32, word: u64) -> Resu
 {
     out.put_field(name)?;
     out.put_number_field(u64::from(addr))?;
-    out.put_word_field(word)
+    out.put_hex_field(16, word)
 }
 
 fn put_two_words(
@@ -143,5 +143,5 @@ fn put_two_words(
         ≡ out.old ++ spaced (name.now ∷ decimal addr ∷ texts.word_text given ∷ texts.word_text old ∷ [])) }
 {
     put_one_word(out, name, addr, given)?;
-    out.put_word_field(old)
+    out.put_hex_field(16, old)
 }

@@ -102,12 +102,13 @@ impl TextWriter {
         self.put_number(number)
     }
 
-    /// Adds a space and a word in 16 hexadecimal digits.
-    pub fn put_word_field(&mut self, word: u64) -> Result<(), NoMemory>
-        ensures { OnOk result (self.new ≡ self.old ++ (codes " " ++ hex 16 word)) }
+    /// Adds a space and the last `digits` hexadecimal digits of a number, 16 at most.
+    pub fn put_hex_field(&mut self, digits: u32, number: u64) -> Result<(), NoMemory>
+        requires { digits ≤ 16 }
+        ensures { OnOk result (self.new ≡ self.old ++ (codes " " ++ hex digits number)) }
     {
         self.put_byte(b' ')?;
-        self.put_hex(16, word)
+        self.put_hex(digits, number)
     }
 
     /// Adds a colon and these bytes.

@@ -9,3 +9,14 @@ pub mod Beginnings
 pub mod Copies
 pub mod Histories
 pub mod Derived
+pub mod Choices
+pub mod Climbing
+pub mod Counting
+pub mod Waiting
+pub mod Queued
+pub mod Owing
+pub mod Steady
+pub mod GoesPost
+pub mod GoesReceive
+pub mod GoesSettle
+pub mod GoesAdapter

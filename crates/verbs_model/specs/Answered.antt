@@ -3,12 +3,12 @@ use Rattle.std.specs.Prelude.{ℕ, ◌≡◌, ◌<◌, ◌==◌, if◌then◌els
 use Rattle.std.specs.List.{flat_map}
 use Rattle.bus_core.specs.Follow.{Follows}
 use Rattle.verbs_model.specs.declared.request.Item.{Item}
-use Rattle.verbs_model.specs.declared.request.Item.TheVariants.{Request as TheRequest}
+use Rattle.verbs_model.specs.declared.request.Item.TheVariants.{Request as TheRequest, Receive as TheReceive}
 use Rattle.verbs_model.specs.declared.completion.Queue.{Queue}
-use Rattle.verbs_model.specs.declared.completion.Queue.TheVariants.{Send}
+use Rattle.verbs_model.specs.declared.completion.Queue.TheVariants.{Send, Recv}
 use Rattle.verbs_model.specs.declared.completion.Completion.{Completion}
 use Rattle.verbs_model.specs.declared.call.Call.{Call}
-use Rattle.verbs_model.specs.declared.call.Call.TheVariants.{Post as PostCall, Poll as PollCall, Drain}
+use Rattle.verbs_model.specs.declared.call.Call.TheVariants.{Post as PostCall, Recv as RecvCall, Poll as PollCall, Drain}
 use Rattle.verbs_model.specs.declared.entry.Entry.{Entry}
 use Rattle.verbs_model.specs.declared.entry.What.{What}
 use Rattle.verbs_model.specs.declared.entry.What.TheVariants.{Post, PostFull, Poll, Retire, Ack}
@@ -29,6 +29,7 @@ pub data Due : Type 0 where
 -- what a call owes
 abbrev pub due_by : Call → List Due
 due_by (PostCall qp requests) = Posting (Send qp) (map TheRequest requests) ∷ []
+due_by (RecvCall qp receives) = Posting (Recv qp) (map TheReceive receives) ∷ []
 due_by (PollCall cq most) = Polling cq most ∷ []
 due_by (Drain cq count) = replicate count (Draining cq)
 

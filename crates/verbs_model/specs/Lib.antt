@@ -9,6 +9,8 @@ pub mod Step
 pub mod Legal
 pub mod Answered
 pub mod Turned
+pub mod Proper
+pub mod Sane
 pub mod Start
 pub mod Held
 pub mod Inside

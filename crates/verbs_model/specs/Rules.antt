@@ -5,7 +5,7 @@ use Rattle.verbs_model.specs.declared.completion.Queue.{Queue}
 use Rattle.verbs_model.specs.declared.completion.Queue.TheVariants.{Send, Recv, Shared}
 use Rattle.verbs_model.specs.declared.completion.Completion.{Completion}
 use Rattle.verbs_model.specs.declared.entry.What.{What}
-use Rattle.verbs_model.specs.declared.entry.What.TheVariants.{Post, PostFull, Poll, Retire, Ack, Fetch, Publish}
+use Rattle.verbs_model.specs.declared.entry.What.TheVariants.{Post, PostFull, Poll, Retire, Free, Ack, Arm, TakeEvent, Submit, Reply, ReadByte, WriteByte, Clean, Fetch, TakeReceive, GetByte, PutByte, Publish, SeeArm, Event, Overrun, Lost, Execute}
 use Rattle.verbs_model.specs.declared.entry.RuleName.{RuleName}
 use Rattle.verbs_model.specs.declared.entry.TheConstants.{ADAPTER, CONTROL}
 use Rattle.verbs_model.specs.Lines.{is_between}
@@ -34,9 +34,25 @@ is_by actor (Post queue items) = is_host actor
 is_by actor (PostFull queue pending head tail) = is_host actor
 is_by actor (Poll cq most completions) = is_host actor
 is_by actor (Retire queue count) = is_host actor
+is_by actor (Free srq) = is_host actor
 is_by actor (Ack cq index) = is_host actor
+is_by actor (Arm cq kind index number) = is_host actor
+is_by actor (TakeEvent eq event) = is_host actor
+is_by actor (Submit command) = is_host actor
+is_by actor (Reply command answer) = is_host actor
+is_by actor (ReadByte addr byte) = is_host actor
+is_by actor (WriteByte addr byte) = is_host actor
+is_by actor (Clean cq qp index) = is_host actor
 is_by actor (Fetch queue number) = actor == ADAPTER
+is_by actor (TakeReceive queue) = actor == ADAPTER
+is_by actor (GetByte addr byte) = actor == ADAPTER
+is_by actor (PutByte addr byte) = actor == ADAPTER
 is_by actor (Publish cq completion) = actor == ADAPTER
+is_by actor (SeeArm cq kind index number) = actor == ADAPTER
+is_by actor (Event eq event) = actor == ADAPTER
+is_by actor (Overrun cq index acked) = actor == ADAPTER
+is_by actor (Lost cq) = actor == ADAPTER
+is_by actor (Execute of command answer) = actor == ADAPTER
 
 -- no shared receive queue can be declared yet
 abbrev pub queue_lives : Verbs → Queue → Bool
@@ -47,7 +63,7 @@ queue_lives v (Shared srq) = false
 abbrev pub names_living : Verbs → Completion → Bool
 names_living v x = queue_lives v x.queue && v.pair_lives x.qp
 
--- each object that the entry names lives
+-- Each object that the entry names lives. The entries that are not named here are not built: what they speak of never lives, so they have no step.
 abbrev pub objects_live : Verbs → What → Bool
 objects_live v (Post queue items) = queue_lives v queue
 objects_live v (PostFull queue pending head tail) = queue_lives v queue
@@ -56,3 +72,4 @@ objects_live v (Retire queue count) = queue_lives v queue
 objects_live v (Ack cq index) = v.completions_live cq
 objects_live v (Fetch queue number) = queue_lives v queue
 objects_live v (Publish cq completion) = v.completions_live cq && names_living v completion
+objects_live v _ = false

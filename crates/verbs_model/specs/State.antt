@@ -1,5 +1,5 @@
 -- The state of verbs queues: plain lists and whole numbers.
-use Rattle.std.specs.Prelude.{ℕ, Bool, List}
+use Rattle.std.specs.Prelude.{ℕ, ◌-◌, Bool, List, length}
 use Rattle.verbs_model.specs.declared.request.Item.{Item}
 use Rattle.verbs_model.specs.declared.completion.Queue.{Queue}
 use Rattle.verbs_model.specs.declared.state.Unpolled.{Unpolled}
@@ -18,6 +18,10 @@ pub record WorkQueue : Type 0 where
   pub retired : ℕ
   -- the numbers, from 1, of the requests whose completion was polled and that are not yet retired
   pub ends : List ℕ
+
+-- how many more requests may be posted now
+abbrev pub free_of : WorkQueue → ℕ
+free_of u = u.room - (length u.posted - u.retired)
 
 pub record CompletionQueue : Type 0 where
   pub size : ℕ

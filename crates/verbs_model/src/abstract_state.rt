@@ -8,7 +8,7 @@ ghost use Rattle.verbs_model.specs.Tables.{state_of};
 use crate::completion::Queue;
 use crate::completion_queue::CompletionQueue;
 use crate::declaration::{FIRST_QP, is_among};
-use crate::state::{Act, QueuePair};
+use crate::state::{Act, QueuePair, Unpolled};
 use crate::work_queue::WorkQueue;
 use ends::place_of;
 use std::marker::Model;
@@ -102,8 +102,16 @@ impl Abstract {
         &self.completions[cq as usize]
     }
 
-    /// What the adapter owes next.
-    pub(crate) fn owed(&self) -> Option<Act>
+    /// The completions of a completion queue that no poll took, the oldest first.
+    pub fn unpolled(&self, cq: u32) -> &[Unpolled]
+        requires { IsTrue ((state_of self.now).completions_live cq) }
+        ensures { result.now ≡ ((state_of self.now).completions cq).unpolled }
+    {
+        self.completions(cq).unpolled()
+    }
+
+    /// What the adapter owes next, if it is in a work entry that is not finished.
+    pub fn owed(&self) -> Option<Act>
         ensures { option_to_list result ≡ (state_of self.now).owed }
     {
         self.owed

@@ -1,6 +1,6 @@
 //! What a thread of a scenario is to do.
 
-use crate::request::Request;
+use crate::request::{Receive, Request};
 use crate::sequence::Sequence;
 
 /// A call of a thread.
@@ -10,6 +10,11 @@ pub enum Call {
     Post {
         qp: u32,
         requests: Sequence<Request>,
+    },
+    /// Posts these receives on the receive queue of a queue pair (`ibv_post_recv`).
+    Recv {
+        qp: u32,
+        receives: Sequence<Receive>,
     },
     /// Takes at most this many completions (`ibv_poll_cq`), 1 to 16.
     Poll {

@@ -44,6 +44,15 @@ pub struct Completion {
     pub solicited: bool,
 }
 
+/// Which completions make an armed completion queue report an event.
+#[derive(Clone, Copy, Debug, PartialEq, Eq)]
+pub enum ArmKind {
+    /// Any completion.
+    Any,
+    /// A solicited one: of a message that asks for it, or of a failure.
+    Solicited,
+}
+
 /// What an event queue reports of a completion queue.
 #[derive(Clone, Copy, Debug, PartialEq, Eq)]
 pub enum EventRecord {

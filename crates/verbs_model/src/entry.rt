@@ -1,6 +1,7 @@
 //! The entries of a history, and why one may be refused.
 
-use crate::completion::{Completion, Queue};
+use crate::command::{Answer, HistoryCommand};
+use crate::completion::{ArmKind, Completion, EventRecord, Queue};
 use crate::request::Item;
 use crate::sequence::Sequence;
 use thiserror::Error;
@@ -18,7 +19,10 @@ pub struct Entry {
     pub what: What,
 }
 
-/// What an entry says. The first five are made by threads, the others by the adapter.
+/// What an entry says. Threads make those up to `Clean`, as does the one that opens and closes the adapter;
+/// the adapter makes the others.
+///
+/// Indices and counts are whole numbers; bytes are named by their address in the arena.
 #[derive(Clone, Debug, Drop)]
 pub enum What {
     /// The queue took these items.
@@ -45,9 +49,52 @@ pub enum What {
         queue: Queue,
         count: u64,
     },
+    /// The oldest completion that was polled of this shared receive queue is done with, and its place free.
+    Free {
+        srq: u32,
+    },
     /// The consumer index is now this whole number.
     Ack {
         cq: u32,
+        index: u64,
+    },
+    /// The completion queue is to report its next event, from this index on. `number` is its arm sequence
+    /// number, modulo 4.
+    Arm {
+        cq: u32,
+        kind: ArmKind,
+        index: u64,
+        number: u64,
+    },
+    /// The oldest event was taken, or there was none.
+    TakeEvent {
+        eq: u32,
+        event: Option<EventRecord>,
+    },
+    /// The maker's command slot asks for this.
+    Submit {
+        command: HistoryCommand,
+    },
+    /// The answer of the maker's command slot was read.
+    Reply {
+        command: HistoryCommand,
+        answer: Answer,
+    },
+    /// The program read this byte.
+    ReadByte {
+        addr: u64,
+        byte: u8,
+    },
+    /// The program wrote this byte.
+    WriteByte {
+        addr: u64,
+        byte: u8,
+    },
+    /// The completions of a destroyed queue pair left the completion queue, whose consumer index is now
+    /// this one.
+    Clean {
+        cq: u32,
+        qp: u32,
         index: u64,
     },
     /// The adapter took the request or receive of this number, counted from 1.
@@ -55,10 +102,52 @@ pub enum What {
         queue: Queue,
         number: u64,
     },
+    /// The adapter took the next receive.
+    TakeReceive {
+        queue: Queue,
+    },
+    /// The adapter read this byte.
+    GetByte {
+        addr: u64,
+        byte: u8,
+    },
+    /// The adapter wrote this byte.
+    PutByte {
+        addr: u64,
+        byte: u8,
+    },
     /// The adapter wrote this completion.
     Publish {
         cq: u32,
         completion: Completion,
+    },
+    /// The adapter saw that the completion queue is armed.
+    SeeArm {
+        cq: u32,
+        kind: ArmKind,
+        index: u64,
+        number: u64,
+    },
+    /// The adapter reported this event.
+    Event {
+        eq: u32,
+        event: EventRecord,
+    },
+    /// The adapter found no place for the completion of this index, and `acked` acknowledged.
+    Overrun {
+        cq: u32,
+        index: u64,
+        acked: u64,
+    },
+    /// A completion was dropped, since the queue has overrun before.
+    Lost {
+        cq: u32,
+    },
+    /// The adapter did the command of an actor's command slot.
+    Execute {
+        actor: u8,
+        command: HistoryCommand,
+        answer: Answer,
     },
 }
 

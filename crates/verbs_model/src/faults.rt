@@ -45,6 +45,7 @@ impl Abstract {
             What::Publish { cq, completion } => {
                 self.has_completions(*cq) && self.has_named(completion)
             }
+            _ => false,
         }
     }
 
@@ -87,6 +88,7 @@ impl Abstract {
             What::Ack { cq, index } => self.completions(*cq).ack_fault(*index),
             What::Fetch { queue, number } => self.fetch_fault(*queue, *number),
             What::Publish { cq, completion } => self.publish_fault(*cq, completion),
+            _ => None,
         }
     }
 

@@ -8,7 +8,7 @@ use std::marker::Model;
 use thiserror::Error;
 
 /// The name of an object or a thread: 1 to 16 of `a` to `z`, `0` to `9` and `_`, the first a letter.
-#[derive(Debug, Drop)]
+#[derive(Clone, Debug, Drop)]
 pub struct Name {
     text: Vec<u8>,
 }

@@ -28,8 +28,25 @@ pub(crate) fn is_by(actor: u8, what: &What) -> bool
         | What::PostFull { .. }
         | What::Poll { .. }
         | What::Retire { .. }
-        | What::Ack { .. } => is_host(actor),
-        What::Fetch { .. } | What::Publish { .. } => actor == ADAPTER,
+        | What::Free { .. }
+        | What::Ack { .. }
+        | What::Arm { .. }
+        | What::TakeEvent { .. }
+        | What::Submit { .. }
+        | What::Reply { .. }
+        | What::ReadByte { .. }
+        | What::WriteByte { .. }
+        | What::Clean { .. } => is_host(actor),
+        What::Fetch { .. }
+        | What::TakeReceive { .. }
+        | What::GetByte { .. }
+        | What::PutByte { .. }
+        | What::Publish { .. }
+        | What::SeeArm { .. }
+        | What::Event { .. }
+        | What::Overrun { .. }
+        | What::Lost { .. }
+        | What::Execute { .. } => actor == ADAPTER,
     }
 }
 

@@ -47,6 +47,7 @@ impl Abstract {
             What::Ack { cq, index } => self.ack(*cq, *index),
             What::Fetch { queue, number } => self.fetch(*queue, *number),
             What::Publish { cq, .. } => self.publish(*cq)?,
+            _ => {}
         }
         Ok(())
     }

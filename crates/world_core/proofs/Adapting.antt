@@ -26,12 +26,12 @@ use Rattle.world_core.specs.declared.turn.Made.TheVariants.{Fetch as FetchMade, 
 use Rattle.world_core.specs.Kept.{Sends, Completes, kept_completions, unpolled_of, nop_of, item_of, publishing, taking}
 use Rattle.world_core.specs.Machine.{verbs_of, act_of}
 use Rattle.world_core.specs.Moves.{is_rts, is_ready, IsFirstReady, IsFetch, owed_for}
-use Rattle.world_core.specs.Sane.{IsHomedAct}
-use Rattle.world_core.specs.Sound.{Sound}
+use Rattle.verbs_model.specs.Sane.{IsHomedAct}
+use Rattle.world_core.specs.Sound.{bounds_on, Sound}
 use Rattle.world_core.specs.Steps.{Steps}
 use Rattle.world_core.specs.View.{View, place_of, sends_at, pair_at, completes_at, with_sends, with_completes}
-use Rattle.world_core.proofs.GoesAdapter as going
-use Rattle.world_core.proofs.GoesAdapter.{publish_goes, fetch_goes, is_fetched, owed_by}
+use Rattle.verbs_model.proofs.GoesAdapter as going
+use Rattle.verbs_model.proofs.GoesAdapter.{publish_goes, fetch_goes, is_fetched, owed_by}
 use Rattle.world_core.proofs.Tabling.{has_place, lives_at, sends_is_at, sends_set_at, pair_is_at, completes_is, completes_low, completes_set, kept_publishing}
 use Rattle.world_core.proofs.Published.{Grows, none_grows, publish_grows, all_kept}
 use Rattle.world_core.proofs.Standing.{stands_completes, stands_owed, stands_sends}
@@ -66,7 +66,7 @@ module _ (d : Lines) (programs : List (List Call)) (w : View) (sound : Sound d p
         let same : v.completions o.cq ≡ kept_completions c = completes_is d w o.cq live in
         let produced : (v.completions o.cq).produced ≡ length c.published = ap (λ (x : CompletionQueue). x.produced) same in
         let size : (v.completions o.cq).size ≡ c.size = ap (λ (x : CompletionQueue). x.size) same in
-        omega (arith, produced, size, going.publish_room (length d.qps) (most_on programs) v (dues_in programs w) o.cq u [] sound.sane owed, sound.stands.published_room o.cq)
+        omega (arith, produced, size, going.publish_room (length d.qps) (bounds_on programs) v (dues_in programs w) o.cq u [] sound.sane owed, sound.stands.published_room o.cq)
 
     abbrev published : View
     published = record w { owed = None; completions = slice_set w.completions o.cq (publishing c o.done) }
@@ -95,7 +95,7 @@ module _ (d : Lines) (programs : List (List Call)) (w : View) (sound : Sound d p
           stands = stands_owed d programs (with_completes w o.cq (publishing c o.done)) (stands_completes d programs w sound.stands o.cq (publishing c o.done) publish_low refl refl longer grows) None;
           same = all_kept programs w.completions published.completions w.threads grows sound.stands.settles;
           lowest = tt;
-          goes = publish_goes (length d.qps) (most_on programs) v (dues_in programs w) o.cq u [] sound.sane owed (nop_completion o.done.qp o.done.id 0) refl;
+          goes = publish_goes (length d.qps) (bounds_on programs) v (dues_in programs w) o.cq u [] sound.sane owed (nop_completion o.done.qp o.done.id 0) refl;
           queues = publish_queues;
           grows = grows;
         })
@@ -189,7 +189,7 @@ module _ (d : Lines) (programs : List (List Call)) (w : View) (sound : Sound d p
 
       fetch_queues : after v (Fetch (Send qp) number) ≡ verbs_of d fetched
       fetch_queues =
-          is_fetched (length d.qps) (most_on programs) v (dues_in programs w) qp (nop_of p) sound.sane (lives_at d programs w sound.stands place first.low) state_is idle_is there_is more_is
+          is_fetched (length d.qps) (bounds_on programs) v (dues_in programs w) qp (nop_of p) sound.sane (lives_at d programs w sound.stands place first.low) state_is idle_is there_is more_is
           ∙ ap (λ (x : WorkQueue). record (with_queue v (Send qp) (rows.take x (x.taken + 1))) { owed = owed_by (v.pairs qp) qp (x.taken + 1) (nop_of p) }) queue_is
           ∙ ap (λ (x : QueuePair). record (with_queue v (Send qp) (taking s).queue) { owed = owed_by x qp (s.queue.taken + 1) (nop_of p) }) pair_is
           ∙ ap (λ (acts : List Act). record (with_queue v (Send qp) (taking s).queue) { owed = acts }) (owed_either p (s.queue.taken + 1) (pair_at w.pairs place).send_cq p.wanted)
@@ -203,7 +203,7 @@ module _ (d : Lines) (programs : List (List Call)) (w : View) (sound : Sound d p
             stands = stands_owed d programs (with_sends w place (taking s)) (stands_sends d programs w sound.stands place (taking s) first.low (record { posted = refl; ends = refl; room = refl })) fetched.owed;
             same = refl;
             lowest = lowest;
-            goes = fetch_goes (length d.qps) (most_on programs) v (dues_in programs w) qp (nop_of p) sound.sane (lives_at d programs w sound.stands place first.low) state_is idle_is there_is more_is;
+            goes = fetch_goes (length d.qps) (bounds_on programs) v (dues_in programs w) qp (nop_of p) sound.sane (lives_at d programs w sound.stands place first.low) state_is idle_is there_is more_is;
             queues = fetch_queues;
             grows = none_grows w.completions;
           })

@@ -3,11 +3,11 @@ use Rattle.std.proofs.Common.{◌≡◌, ◌≢◌, ℕ, zero, suc, ◌+◌, ◌
 use Rattle.std.specs.List.{flat_map, list_any, sum_by, All, AllByRecursion}
 use Rattle.std.proofs.lemmas.List.{length-map}
 use Rattle.std.proofs.lemmas.List.Folds.{list_any-append}
-use Rattle.std.proofs.lemmas.List.Sums.{sum_by-append}
+use Rattle.std.proofs.lemmas.List.Sums.{sum_by-append, sum_by-cons}
 use Rattle.std.proofs.lemmas.Bool.{eq-eqb, ltb-true, ltb-false}
 use Rattle.std.proofs.Math.ListN.{get_or-eq_default}
 use Rattle.verbs_model.specs.declared.call.Call.{Call}
-use Rattle.verbs_model.specs.declared.call.Call.TheVariants.{Post as PostCall, Poll as PollCall, Drain}
+use Rattle.verbs_model.specs.declared.call.Call.TheVariants.{Post as PostCall, Recv as RecvCall, Poll as PollCall, Drain}
 use Rattle.verbs_model.specs.declared.completion.Queue.TheVariants.{Send}
 use Rattle.verbs_model.specs.declared.declaration.Lines.{Lines}
 use Rattle.verbs_model.specs.declared.declaration.TheConstants.{FIRST_QP}
@@ -18,11 +18,10 @@ use Rattle.verbs_model.specs.Answered.{Due, Posting, Draining, due_by}
 use Rattle.scenario_text.specs.Calls.{IsCall, IsProgram, IsPlainNop, IsOfOneThread, posts_on as call_posts_on}
 use Rattle.scenario_text.specs.Limits.{posted_by, posted_on}
 use Rattle.world_core.specs.Decoding.{call_at}
-use Rattle.world_core.specs.Sane.{OnePosts, AreProper, IsProper, IsNop, items_on, posts_on, retires_on, over_dues, dues_of_thread}
+use Rattle.verbs_model.specs.Proper.{OnePosts, AreProper, IsProper, IsNop, items_on, posts_on, retires_on, over_dues, dues_of_thread}
 use Rattle.world_core.specs.Sound.{DrainsSome}
-use Rattle.world_core.proofs.Choices.{either, differs}
-use Rattle.world_core.proofs.Dues.{sum_by-cons}
-use Rattle.world_core.proofs.Owing.{proper_rest}
+use Rattle.verbs_model.proofs.Choices.{either, differs}
+use Rattle.verbs_model.proofs.Owing.{proper_rest}
 
 -- what the calls of each thread owe
 abbrev pub first_dues : List (List Call) → List (List Due)
@@ -47,6 +46,7 @@ call_items qp (PostCall q requests) =
     ∙ ap (λ m. (if qp == q then m else 0) + 0) (let long : length (map TheRequest requests) ≡ length requests = simp length-map in long)
     ∙ ap (λ b. (if b then length requests else 0) + 0) (same_test qp q)
     ∙ (let none : (if q == qp then length requests else 0) + 0 ≡ (if q == qp then length requests else 0) = omega arith in none)
+call_items qp (RecvCall q receives) = refl
 call_items qp (PollCall cq most) = refl
 call_items qp (Drain cq count) = drains_items qp count cq
 
@@ -67,6 +67,7 @@ drains_retires qp (suc n) cq = drains_retires qp n cq
 
 call_retires : (qp : ℕ) (c : Call) → sum_by (retires_on qp) (due_by c) ≡ 0
 call_retires qp (PostCall q requests) = refl
+call_retires qp (RecvCall q receives) = refl
 call_retires qp (PollCall cq most) = refl
 call_retires qp (Drain cq count) = drains_retires qp count cq
 
@@ -90,6 +91,7 @@ or_none false = refl
 
 call_posts : (qp : ℕ) (c : Call) → list_any (posts_on qp) (due_by c) ≡ call_posts_on qp c
 call_posts qp (PostCall q requests) = or_none (qp == q) ∙ same_test qp q
+call_posts qp (RecvCall q receives) = refl
 call_posts qp (PollCall cq most) = refl
 call_posts qp (Drain cq count) = drains_posts qp count cq
 
@@ -151,7 +153,8 @@ module _ (d : Lines) where
   proper_call : (c : Call) → IsCall d c → AllByRecursion (IsProper pairs cqs) (due_by c)
   proper_call (PostCall qp requests) h =
       let long : length (map TheRequest requests) ≡ length requests = simp length-map in
-      ((record { qp = qp; is = refl; living = h.0 }, omega (arith, long, h.1.0), nops_of requests h.2), tt)
+      ((h.0, omega (arith, long, h.1.0), nops_of requests h.2), tt)
+  proper_call (RecvCall qp receives) h = absurd h
   proper_call (PollCall cq most) h = ((h.0, h.1.0, h.1.1), tt)
   proper_call (Drain cq count) h = proper_drains count cq h.0
 
@@ -169,6 +172,7 @@ module _ (d : Lines) where
 
   drains_some : (c : Call) → IsCall d c → DrainsSome c
   drains_some (PostCall qp requests) h = tt
+  drains_some (RecvCall qp receives) h = absurd h
   drains_some (PollCall cq most) h = tt
   drains_some (Drain cq count) h = omega (arith, h.1.0)
 

@@ -18,7 +18,7 @@ use Rattle.verbs_model.proofs.Failing.{is_between-true}
 use Rattle.scenario_text.specs.Calls.{HasRoom}
 use Rattle.scenario_text.specs.Limits.{posted_on, completing_into}
 use Rattle.world_core.specs.Fresh.{size_at}
-use Rattle.world_core.specs.Sane.{into}
+use Rattle.verbs_model.specs.Sane.{into}
 
 -- the parts of a declaration that is within its limits
 pub record Declares (d : Lines) : Type 0 where

@@ -15,8 +15,9 @@ use Rattle.world_core.specs.declared.run.Progress.{Progress}
 use Rattle.world_core.specs.declared.turn.Made.{Made}
 use Rattle.world_core.specs.Decoding.{what_of}
 use Rattle.world_core.specs.Machine.{verbs_of, all_dues, dues_of, dues_at, running_of, at_call}
-use Rattle.world_core.specs.Sane.{Sane, Goes, Owes}
-use Rattle.world_core.specs.Sound.{Sound, Stands}
+use Rattle.verbs_model.specs.Proper.{Owes}
+use Rattle.verbs_model.specs.Sane.{Bounds, Sane, Goes}
+use Rattle.world_core.specs.Sound.{bounds_on, Sound, Stands}
 use Rattle.world_core.specs.Steps.{MakesEntry, Steps, IsWithin}
 use Rattle.world_core.specs.View.{View}
 use Rattle.world_core.proofs.Dues.{all_dues-set, all_dues-at, dues_at-set, length-all_dues}
@@ -50,11 +51,11 @@ pub record ThreadMoves (d : Lines) (programs : List (List Call)) (w w' : View) (
   pub left : dues_in programs w' ≡ slice_set (dues_in programs w) t (left_by due what ++ rest)
   pub answers : Answers due what
   pub lowest : IsLowest (verbs_of d w) what
-  pub goes : Goes (length d.qps) (most_on programs) (verbs_of d w) (suc t) what (slice_set (dues_in programs w) t (left_by due what ++ rest))
+  pub goes : Goes (length d.qps) (bounds_on programs) (verbs_of d w) (suc t) what (slice_set (dues_in programs w) t (left_by due what ++ rest))
   pub queues : after (verbs_of d w) what ≡ verbs_of d w'
   pub grows : Grows w.completions w'.completions
 
-sane_now : (n : ℕ) (total : ℕ → ℕ) (v v' : Verbs) (dues dues' : List (List Due)) → v ≡ v' → dues' ≡ dues → Sane n total v dues → Sane n total v' dues'
+sane_now : (n : ℕ) (total : Bounds) (v v' : Verbs) (dues dues' : List (List Due)) → v ≡ v' → dues' ≡ dues → Sane n total v dues → Sane n total v' dues'
 sane_now n total v v' dues dues' e f s = subst (Sane n total v') (sym f) (subst (λ (x : Verbs). Sane n total x dues) e s)
 
 thread_steps_as : (d : Lines) (programs : List (List Call)) (w w' : View) (t : ℕ) (due : Due) (rest : List Due) (what : What) (made : Made) → Sound d programs w → ThreadMoves d programs w w' t due rest what → what_of programs w'.completions (suc t) made ≡ what → IsWithin w'.completions (Some made)
@@ -80,7 +81,7 @@ pub record AdapterMoves (d : Lines) (programs : List (List Call)) (w w' : View) 
   pub stands : Stands d programs w'
   pub same : dues_in programs w' ≡ dues_in programs w
   pub lowest : IsLowest (verbs_of d w) what
-  pub goes : Goes (length d.qps) (most_on programs) (verbs_of d w) 0 what (dues_in programs w)
+  pub goes : Goes (length d.qps) (bounds_on programs) (verbs_of d w) 0 what (dues_in programs w)
   pub queues : after (verbs_of d w) what ≡ verbs_of d w'
   pub grows : Grows w.completions w'.completions
 

@@ -16,7 +16,7 @@ use Rattle.world_core.specs.Decoding.{program_of}
 use Rattle.world_core.specs.Machine.{start_running}
 use Rattle.world_core.specs.Steps.{IsOwed, MakesEntry, MakesNone}
 use Rattle.world_core.specs.World.{Leads}
-use Rattle.world_core.proofs.Choices.{either}
+use Rattle.verbs_model.proofs.Choices.{either}
 
 verbs_fold : (r : Running) (h : List Entry) → (fold after_turn r h).verbs ≡ fold after_entry r.verbs h
 verbs_fold r [] = refl

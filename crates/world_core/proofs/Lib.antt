@@ -1,14 +1,5 @@
 pub mod Families
-pub mod Choices
 pub mod Dues
-pub mod Climbing
-pub mod Counting
-pub mod Waiting
-pub mod Queued
-pub mod Owing
-pub mod GoesPost
-pub mod GoesSettle
-pub mod GoesAdapter
 pub mod Tabling
 pub mod Published
 pub mod Standing

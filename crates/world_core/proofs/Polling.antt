@@ -23,13 +23,13 @@ use Rattle.world_core.specs.declared.completions.Done.{Done}
 use Rattle.world_core.specs.Kept.{Sends, Completes, kept_completions, completion_of, unpolled_of, left_of, polling, ending}
 use Rattle.world_core.specs.Machine.{both_of, tables_of, verbs_of}
 use Rattle.world_core.specs.Moves.{next_of, ended, CanEnd}
-use Rattle.world_core.specs.Sane.{IsHomed, numbers_in, waiting}
-use Rattle.world_core.specs.Sound.{Sound}
+use Rattle.verbs_model.specs.Sane.{IsHomed, numbers_in, waiting}
+use Rattle.world_core.specs.Sound.{bounds_on, Sound}
 use Rattle.world_core.specs.View.{View, place_of, sends_at, completes_at}
-use Rattle.world_core.proofs.Choices.{differs}
-use Rattle.world_core.proofs.Queued.{ends_fit}
-use Rattle.world_core.proofs.Waiting.{completion_in, homed_take, numbers_own}
-use Rattle.world_core.proofs.GoesSettle.{named_each, waits_now}
+use Rattle.verbs_model.proofs.Choices.{differs}
+use Rattle.verbs_model.proofs.Queued.{ends_fit}
+use Rattle.verbs_model.proofs.Waiting.{completion_in, homed_take, numbers_own}
+use Rattle.verbs_model.proofs.GoesSettle.{named_each, waits_now}
 use Rattle.world_core.proofs.Tabling.{both_at, both_set, both_length, has_place, sends_is_at, completes_is, kept_polling}
 use Rattle.world_core.proofs.Standing.{AreThere, sends_put}
 use Rattle.world_core.proofs.Entries.{dues_in, most_on}
@@ -141,7 +141,7 @@ module _ (d : Lines) (programs : List (List Call)) (w : View) (sound : Sound d p
       let is : v.queues (Send qp) ≡ (sends_at w.queues k).queue = sends_is_at d programs w sound.stands k low in
       let ends : length (v.queues (Send qp)).ends ≡ length (sends_at w.queues k).queue.ends = ap (λ (u : WorkQueue). length u.ends) is in
       let room : (v.queues (Send qp)).room ≡ (sends_at w.queues k).queue.room = ap (λ (u : WorkQueue). u.room) is in
-      let waits : waiting v qp ≡ numbers_in qp (take most (v.completions cq).unpolled) ++ waiting (after v (Poll cq most (map completion_in (take most (v.completions cq).unpolled)))) qp = waits_now (length d.qps) (most_on programs) v (dues_in programs w) cq most sound.sane qp in
+      let waits : waiting v qp ≡ numbers_in qp (take most (v.completions cq).unpolled) ++ waiting (after v (Poll cq most (map completion_in (take most (v.completions cq).unpolled)))) qp = waits_now (length d.qps) (bounds_on programs) v (dues_in programs w) cq most sound.sane qp in
       let long : length (waiting v qp) ≡ length (numbers_in qp (take most (v.completions cq).unpolled)) + length (waiting (after v (Poll cq most (map completion_in (take most (v.completions cq).unpolled)))) qp) = ap (λ (ns : List ℕ). length ns) waits ∙ length-append (numbers_in qp (take most (v.completions cq).unpolled)) (waiting (after v (Poll cq most (map completion_in (take most (v.completions cq).unpolled)))) qp) in
       let same : length (numbers_in qp (take most (v.completions cq).unpolled)) ≡ length (numbers_at k (next_of polled_queue most)) = ap (λ (us : List Unpolled). length (numbers_in qp us)) taken_is in
       omega (arith, ends, room, long, same, ends_fit (v.queues (Send qp)) (waiting v qp) _ _ _ (sound.sane.queues qp), sound.stands.ends_room k)

@@ -27,17 +27,19 @@ use Rattle.world_core.specs.declared.run.Now.{Now}
 use Rattle.world_core.specs.declared.run.Now.TheVariants.{Free, Accept}
 use Rattle.world_core.specs.declared.turn.Made.TheVariants.{Post as PostMade, Full}
 use Rattle.world_core.specs.Decoding.{call_at, requests_of, requests_at, pair_of, pair_at, items_at}
-use Rattle.world_core.specs.Kept.{Sends, Completes, posted_of, item_of, appended, free_of}
+use Rattle.verbs_model.specs.State.{free_of}
+use Rattle.world_core.specs.Kept.{Sends, Completes, posted_of, item_of, appended}
 use Rattle.world_core.specs.Machine.{verbs_of, dues_of, now_due, at_call}
 use Rattle.world_core.specs.Moves.{accepting_now}
-use Rattle.world_core.specs.Sane.{Goes, Owes, QueueSane, IsNop, items_on, retires_on, over_dues, waiting, free_on}
-use Rattle.world_core.specs.Sound.{Sound, SettlesWithin}
+use Rattle.verbs_model.specs.Proper.{Owes, IsNop, items_on, retires_on, over_dues}
+use Rattle.verbs_model.specs.Sane.{Goes, QueueSane, waiting, free_on}
+use Rattle.world_core.specs.Sound.{bounds_on, Sound, SettlesWithin}
 use Rattle.world_core.specs.Steps.{Steps, IsFreeAt, IsPostAt}
 use Rattle.world_core.specs.View.{View, place_of, sends_at, with_sends, with_progress}
-use Rattle.world_core.proofs.Counting.{over_due}
-use Rattle.world_core.proofs.Queued.{retired_low}
-use Rattle.world_core.proofs.Owing.{proper_at}
-use Rattle.world_core.proofs.GoesPost.{posting_goes, accepting_goes, full_goes, accepts}
+use Rattle.verbs_model.proofs.Counting.{over_due}
+use Rattle.verbs_model.proofs.Queued.{retired_low}
+use Rattle.verbs_model.proofs.Owing.{proper_at}
+use Rattle.verbs_model.proofs.GoesPost.{posting_goes, accepting_goes, full_goes, accepts}
 use Rattle.world_core.proofs.Tabling.{HasPlace, has_place, sends_is, sends_set}
 use Rattle.world_core.proofs.Published.{none_grows}
 use Rattle.world_core.proofs.Standing.{stands_sends, stands_progress}
@@ -92,16 +94,12 @@ module _ (d : Lines) (programs : List (List Call)) (w : View) (sound : Sound d p
   pub posting_here : (t qp : ℕ) (items : List Item) (rest : List Due) → Owes (dues_in programs w) t (Posting (Send qp) items) rest → PostsHere d programs w qp items
   posting_here t qp items rest owes =
       let p = (proper_at v.pair_lives v.completions_live (free_on v) (dues_in programs w) t (Posting (Send qp) items) rest sound.sane.owing owes).0 in
-      let same : p.0.qp ≡ qp = cc p.0.is in
-      let lives : v.pair_lives qp ≡ true = subst (λ k. v.pair_lives k ≡ true) same p.0.living in
-      record { lives = lives; place = has_place d programs w sound.stands qp lives; nops = p.2; room = room_here t qp items (Posting (Send qp) items) rest owes (own qp (length items)) lives }
+      record { lives = p.0; place = has_place d programs w sound.stands qp p.0; nops = p.2; room = room_here t qp items (Posting (Send qp) items) rest owes (own qp (length items)) p.0 }
 
   pub accepting_here : (t qp : ℕ) (items : List Item) (rest : List Due) → Owes (dues_in programs w) t (Accepting (Send qp) items) rest → PostsHere d programs w qp items
   accepting_here t qp items rest owes =
       let p = (proper_at v.pair_lives v.completions_live (free_on v) (dues_in programs w) t (Accepting (Send qp) items) rest sound.sane.owing owes).0 in
-      let same : p.qp ≡ qp = cc p.is in
-      let lives : v.pair_lives qp ≡ true = subst (λ k. v.pair_lives k ≡ true) same p.living in
-      record { lives = lives; place = has_place d programs w sound.stands qp lives; nops = p.nops; room = room_here t qp items (Accepting (Send qp) items) rest owes (own qp (length items)) lives }
+      record { lives = p.living; place = has_place d programs w sound.stands qp p.living; nops = p.nops; room = room_here t qp items (Accepting (Send qp) items) rest owes (own qp (length items)) p.living }
 
   post_queues : (qp : ℕ) (rs : List Request) → PostsHere d programs w qp (map TheRequest rs) → after v (Post (Send qp) (map TheRequest rs)) ≡ verbs_of d (with_sends w (place_of qp) (appended (sends qp) rs))
   post_queues qp rs h =
@@ -112,7 +110,7 @@ module _ (d : Lines) (programs : List (List Call)) (w : View) (sound : Sound d p
   -- the post, after which the thread goes on
   post_moves : (t qp : ℕ) (p p' : Progress) (rs : List Request) (due : Due) (rest : List Due) → AtThread w t p → dues_of (slice_index_or programs t []) w.completions p ≡ due ∷ rest → dues_of (slice_index_or programs t []) w.completions p' ≡ rest → p'.now ≡ Free
       → PostsHere d programs w qp (map TheRequest rs) → Answers due (Post (Send qp) (map TheRequest rs)) → left_by due (Post (Send qp) (map TheRequest rs)) ≡ []
-      → Goes (length d.qps) (most_on programs) v (suc t) (Post (Send qp) (map TheRequest rs)) (slice_set (dues_in programs w) t rest)
+      → Goes (length d.qps) (bounds_on programs) v (suc t) (Post (Send qp) (map TheRequest rs)) (slice_set (dues_in programs w) t rest)
       → ThreadMoves d programs w (with_progress (with_sends w (place_of qp) (appended (sends qp) rs)) t p') t due rest (Post (Send qp) (map TheRequest rs))
   post_moves t qp p p' rs due rest a owes leads free h answers nothing goes =
       let none : slice_set (dues_in programs w) t rest ≡ slice_set (dues_in programs w) t (left_by due (Post (Send qp) (map TheRequest rs)) ++ rest) = ap (λ (ds : List Due). slice_set (dues_in programs w) t (ds ++ rest)) (sym nothing) in record {
@@ -121,7 +119,7 @@ module _ (d : Lines) (programs : List (List Call)) (w : View) (sound : Sound d p
         left = dues_now d programs w sound.stands t p a p' ∙ ap (slice_set (dues_in programs w) t) leads ∙ none;
         answers = answers;
         lowest = tt;
-        goes = subst (Goes (length d.qps) (most_on programs) v (suc t) (Post (Send qp) (map TheRequest rs))) none goes;
+        goes = subst (Goes (length d.qps) (bounds_on programs) v (suc t) (Post (Send qp) (map TheRequest rs))) none goes;
         queues = post_queues qp rs h;
         grows = none_grows w.completions;
       }
@@ -173,7 +171,7 @@ module _ (d : Lines) (programs : List (List Call)) (w : View) (sound : Sound d p
         let qp_said : pair_at calls n ≡ qp = ap pair_of post.is_post in
         thread_steps d programs w w' (with_progress (with_sends w (place_of qp) (appended (sends qp) rs)) t (at_call (n + 1))) t (Posting (Send qp) items) later (Post (Send qp) items) (PostMade n (length rs)) sound
         (post_moves t qp begins (at_call (n + 1)) rs (Posting (Send qp) items) later at_begin posting_owed refl refl post_here (refl, refl) refl
-        (posting_goes (length d.qps) (most_on programs) v (dues_in programs w) t qp items later sound.sane posting_owes (omega (arith, fits, long, free_is))))
+        (posting_goes (length d.qps) (bounds_on programs) v (dues_in programs w) t qp items later sound.sane posting_owes (omega (arith, fits, long, free_is))))
         (ap (λ k. Post (Send k) (map TheRequest (take (length rs) (requests_at calls n)))) qp_said ∙ ap (Post (Send qp)) said)
         tt
         (leads ∙ ap (λ (x : View). with_progress x t (at_call (n + 1))) first)
@@ -201,8 +199,8 @@ module _ (d : Lines) (programs : List (List Call)) (w : View) (sound : Sound d p
         let items : List Item = map TheRequest rs in
         let u : WorkQueue = (sends qp).queue in
         let is : v.queues (Send qp) ≡ u = sends_is d programs w sound.stands qp post_here.lives in
-        let goes = full_goes (length d.qps) (most_on programs) v (dues_in programs w) t qp items later sound.sane posting_owes (omega (arith, less, long, free_is)) in
-        let owed_then : dues_of calls w.completions full ≡ accepts qp (free_of u) items ++ later = ap (λ (ds : List Due). ds ++ later) (full_due (free_of u) (free_of u == 0)) in
+        let goes = full_goes (length d.qps) (bounds_on programs) v (dues_in programs w) t qp items later sound.sane posting_owes in
+        let owed_then : dues_of calls w.completions full ≡ accepts (Send qp) (free_of u) items ++ later = ap (λ (ds : List Due). ds ++ later) (full_due (free_of u) (free_of u == 0)) in
         thread_steps d programs w w' (with_progress w t full) t (Posting (Send qp) items) later (full_what u) (Full n (free_of u) (length u.posted + free_of u) u.retired) sound
         (record {
           stands = stands_progress d programs w sound.stands t full at_begin.low (full_settles (free_of u) (free_of u == 0));
@@ -210,7 +208,7 @@ module _ (d : Lines) (programs : List (List Call)) (w : View) (sound : Sound d p
           left = dues_now d programs w sound.stands t begins at_begin full ∙ ap (slice_set (dues_in programs w) t) owed_then;
           answers = (refl, omega (arith, less, long));
           lowest = tt;
-          goes = subst (λ (x : WorkQueue). Goes (length d.qps) (most_on programs) v (suc t) (full_what x) (slice_set (dues_in programs w) t (accepts qp (free_of x) items ++ later))) is goes;
+          goes = subst (λ (x : WorkQueue). Goes (length d.qps) (bounds_on programs) v (suc t) (full_what x) (slice_set (dues_in programs w) t (accepts (Send qp) (free_of x) items ++ later))) is goes;
           queues = refl;
           grows = none_grows w.completions;
         })
@@ -260,7 +258,7 @@ module _ (d : Lines) (programs : List (List Call)) (w : View) (sound : Sound d p
         let items : List Item = map TheRequest accepted in
         thread_steps d programs w w' (with_progress (with_sends w (place_of own_qp) (appended (sends own_qp) accepted)) t freed) t (Accepting (Send own_qp) items) after_call (Post (Send own_qp) items) (PostMade call (min count (length (requests_at own_calls call)))) sound
         (post_moves t own_qp p freed accepted (Accepting (Send own_qp) items) after_call a accept_owed refl refl accept_here (refl, refl) refl
-        (accepting_goes (length d.qps) (most_on programs) v (dues_in programs w) t own_qp items after_call sound.sane accept_owes))
+        (accepting_goes (length d.qps) (bounds_on programs) v (dues_in programs w) t own_qp items after_call sound.sane accept_owes))
         refl
         tt
         (leads ∙ ap (λ (x : View). with_progress x t freed) first)

@@ -14,7 +14,7 @@ use Rattle.world_core.specs.View.{completes_at}
 use Rattle.world_core.specs.Machine.{now_due, dues_of, all_dues, retiring_of, at_call}
 use Rattle.world_core.specs.Sound.{SettlesWithin}
 use Rattle.world_core.specs.Steps.{Extends}
-use Rattle.world_core.proofs.Choices.{either}
+use Rattle.verbs_model.proofs.Choices.{either}
 
 -- every completion queue holds what it held
 abbrev pub Grows : List Completes → List Completes → Type 0

@@ -22,12 +22,13 @@ use Rattle.world_core.specs.Decoding.{published_at}
 use Rattle.world_core.specs.Kept.{Sends, Completes, kept_completions, acking, retiring}
 use Rattle.world_core.specs.Machine.{verbs_of, dues_of, now_due, retiring_of}
 use Rattle.world_core.specs.Moves.{IsRetire, RetiresAt}
-use Rattle.world_core.specs.Sane.{Goes, Owes, free_on}
-use Rattle.world_core.specs.Sound.{Sound, SettlesWithin}
+use Rattle.verbs_model.specs.Proper.{Owes}
+use Rattle.verbs_model.specs.Sane.{Goes, free_on}
+use Rattle.world_core.specs.Sound.{bounds_on, Sound, SettlesWithin}
 use Rattle.world_core.specs.Steps.{Steps}
 use Rattle.world_core.specs.View.{View, place_of, sends_at, completes_at, with_sends, with_completes, with_progress}
-use Rattle.world_core.proofs.Owing.{proper_at}
-use Rattle.world_core.proofs.GoesSettle.{retire_goes, retire_there, ack_goes}
+use Rattle.verbs_model.proofs.Owing.{proper_at}
+use Rattle.verbs_model.proofs.GoesSettle.{retire_goes, retire_there, ack_goes}
 use Rattle.world_core.proofs.Tabling.{has_place, sends_is, sends_set, completes_is, completes_low, completes_set}
 use Rattle.world_core.proofs.Published.{Grows, none_grows, kept_grows, all_kept}
 use Rattle.world_core.proofs.Standing.{stands_sends, stands_completes, stands_progress}
@@ -106,7 +107,7 @@ module _ (d : Lines) (programs : List (List Call)) (w : View) (sound : Sound d p
             left = all_kept programs w.completions ack_cs (slice_set w.threads t freed) ack_grows (stands_progress d programs w sound.stands t freed a.low tt).settles ∙ dues_now d programs w sound.stands t p a freed;
             answers = refl;
             lowest = tt;
-            goes = subst (λ n. Goes (length d.qps) (most_on programs) v (suc t) (Ack cq n) (slice_set (dues_in programs w) t others)) ack_index (ack_goes (length d.qps) (most_on programs) v (dues_in programs w) t cq others sound.sane ack_owes);
+            goes = subst (λ n. Goes (length d.qps) (bounds_on programs) v (suc t) (Ack cq n) (slice_set (dues_in programs w) t others)) ack_index (ack_goes (length d.qps) (bounds_on programs) v (dues_in programs w) t cq others sound.sane ack_owes);
             queues = ack_queues;
             grows = ack_grows;
           })
@@ -153,7 +154,7 @@ module _ (d : Lines) (programs : List (List Call)) (w : View) (sound : Sound d p
         completion = x;
         there = there;
         queue = (has_place d programs w sound.stands x.qp retire_lives).low;
-        ends = let same : length (v.queues (Send x.qp)).ends ≡ length s.queue.ends = ap (λ (u : WorkQueue). length u.ends) queue_is in omega (arith, same, retire_there (length d.qps) (most_on programs) v (dues_in programs w) t x.qp retire_rest sound.sane retire_owes);
+        ends = let same : length (v.queues (Send x.qp)).ends ≡ length s.queue.ends = ap (λ (u : WorkQueue). length u.ends) queue_is in omega (arith, same, retire_there (length d.qps) (bounds_on programs) v (dues_in programs w) t x.qp retire_rest sound.sane retire_owes);
       }
 
       retire_queues : (number : ℕ) → after v (Retire (Send x.qp) number) ≡ verbs_of d (with_sends w (place_of x.qp) (retiring s number))
@@ -171,7 +172,7 @@ module _ (d : Lines) (programs : List (List Call)) (w : View) (sound : Sound d p
             left = dues_now d programs w sound.stands t p a (settling_at (first + 1) (left - 1));
             answers = refl;
             lowest = tt;
-            goes = retire_goes (length d.qps) (most_on programs) v (dues_in programs w) t x.qp number more retire_rest sound.sane retire_owes (ap (λ (u : WorkQueue). u.ends) queue_is ∙ oldest);
+            goes = retire_goes (length d.qps) (bounds_on programs) v (dues_in programs w) t x.qp number more retire_rest sound.sane retire_owes (ap (λ (u : WorkQueue). u.ends) queue_is ∙ oldest);
             queues = retire_queues number;
             grows = none_grows w.completions;
           })

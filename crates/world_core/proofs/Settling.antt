@@ -20,13 +20,14 @@ use Rattle.world_core.specs.Decoding.{call_at, published_at}
 use Rattle.world_core.specs.Kept.{Completes, completion_of, unpolled_of, left_of, polling}
 use Rattle.world_core.specs.Machine.{verbs_of, all_dues, dues_at, dues_of, now_due, retiring_of, running_of}
 use Rattle.world_core.specs.Moves.{settled_now, next_of, ended}
-use Rattle.world_core.specs.Sane.{Sane, Goes, Owes, free_on}
-use Rattle.world_core.specs.Sound.{Sound, Stands, SettlesWithin, DrainsSome}
+use Rattle.verbs_model.specs.Proper.{Owes}
+use Rattle.verbs_model.specs.Sane.{Sane, Goes, free_on}
+use Rattle.world_core.specs.Sound.{bounds_on, Sound, Stands, SettlesWithin, DrainsSome}
 use Rattle.world_core.specs.Steps.{Steps, TurnsTo, IsDraining, IsFreeAt, IsPollAt}
 use Rattle.world_core.specs.View.{View, completes_at, with_progress}
-use Rattle.world_core.proofs.Owing.{proper_at}
-use Rattle.world_core.proofs.Waiting.{completion_in}
-use Rattle.world_core.proofs.GoesSettle.{polling_goes, draining_goes, ends_owed}
+use Rattle.verbs_model.proofs.Owing.{proper_at}
+use Rattle.verbs_model.proofs.Waiting.{completion_in}
+use Rattle.verbs_model.proofs.GoesSettle.{polling_goes, draining_goes, ends_owed}
 use Rattle.world_core.proofs.Tabling.{completes_is, completes_low}
 use Rattle.world_core.proofs.Published.{Grows, kept_grows, all_kept, settles_kept, extended_stays}
 use Rattle.world_core.proofs.Standing.{stands_completes, stands_progress, stands_ended}
@@ -108,7 +109,7 @@ module _ (d : Lines) (programs : List (List Call)) (w : View) (sound : Sound d p
         (settles_kept w.completions cs' p'.now grows settles)
 
     pub take_steps : Answers due what → left_by due what ≡ ends_owed cq (take most (v.completions cq).unpolled)
-        → Goes (length d.qps) (most_on programs) v (suc t) what (slice_set (dues_in programs w) t (ends_owed cq (take most (v.completions cq).unpolled) ++ later))
+        → Goes (length d.qps) (bounds_on programs) v (suc t) what (slice_set (dues_in programs w) t (ends_owed cq (take most (v.completions cq).unpolled) ++ later))
         → (w1 w' : View) → w1 ≡ polled_view d programs w sound cq most live → w' ≡ with_progress w1 t p'
         → Steps d programs w (suc t) (Some (PollMade cq most c.polled count)) w'
     take_steps answers leaves goes w1 w' first follows =
@@ -122,7 +123,7 @@ module _ (d : Lines) (programs : List (List Call)) (w : View) (sound : Sound d p
           left = left_now ∙ same;
           answers = answers;
           lowest = tt;
-          goes = subst (Goes (length d.qps) (most_on programs) v (suc t) what) same goes;
+          goes = subst (Goes (length d.qps) (bounds_on programs) v (suc t) what) same goes;
           queues = poll_queues d programs w sound cq most live;
           grows = grows;
         })
@@ -151,7 +152,7 @@ module _ (d : Lines) (programs : List (List Call)) (w : View) (sound : Sound d p
         → Steps d programs w (suc t) (Some (PollMade cq most (completes_at w.completions cq).polled (min most (left_of (completes_at w.completions cq))))) w'
     poll_steps w1 w' first follows =
         take_steps t cq most poll_begins (Polling cq most) poll_later 0 cq (n + 1) poll_live (stands_there w t poll_begins free.stands) poll_owed refl (refl, refl) refl
-        (polling_goes (length d.qps) (most_on programs) v (dues_in programs w) cq most sound.sane t poll_later poll_owes) w1 w' first follows
+        (polling_goes (length d.qps) (bounds_on programs) v (dues_in programs w) cq most sound.sane t poll_later poll_owes) w1 w' first follows
 
   -- one completion of a drain
   module _ (t cq drains n : ℕ) (stands : IsDraining w t cq drains n) (some : 0 < drains) where
@@ -179,7 +180,7 @@ module _ (d : Lines) (programs : List (List Call)) (w : View) (sound : Sound d p
         → Steps d programs w (suc t) (Some (PollMade cq 1 (completes_at w.completions cq).polled (min 1 (left_of (completes_at w.completions cq))))) w'
     drain_steps w1 w' more first follows =
         take_steps t cq 1 drain_now (Draining cq) drain_later (drains - 1) cq n drain_live (stands_there w t drain_now stands) drain_owed refl (refl, refl, drained_one more) refl
-        (draining_goes (length d.qps) (most_on programs) v (dues_in programs w) t cq drain_later sound.sane drain_owes) w1 w' first follows
+        (draining_goes (length d.qps) (bounds_on programs) v (dues_in programs w) t cq drain_later sound.sane drain_owes) w1 w' first follows
 
     -- a drain that waits
     pub drain_rests : length (published_at w.completions cq) ≡ (completes_at w.completions cq).polled → Steps d programs w (suc t) None w
@@ -219,7 +220,7 @@ module _ (d : Lines) (programs : List (List Call)) (w : View) (sound : Sound d p
     pub begun_sound : (w1 : View) → w1 ≡ begun → Sound d programs w1
     begun_sound w1 is = subst (Sound d programs) (sym is) (record {
       stands = stands_progress d programs w sound.stands t drains begun_at.low tt;
-      sane = subst (Sane (length d.qps) (most_on programs) v) (sym begun_same) sound.sane;
+      sane = subst (Sane (length d.qps) (bounds_on programs) v) (sym begun_same) sound.sane;
       drains = sound.drains;
     })
 

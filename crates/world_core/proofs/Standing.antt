@@ -14,7 +14,7 @@ use Rattle.world_core.specs.View.{View, place_of, sends_at, completes_at, with_s
 use Rattle.world_core.specs.Machine.{at_call}
 use Rattle.world_core.specs.Moves.{ended}
 use Rattle.world_core.specs.Sound.{Stands, SettlesWithin}
-use Rattle.world_core.proofs.Choices.{either}
+use Rattle.verbs_model.proofs.Choices.{either}
 use Rattle.world_core.proofs.Published.{Grows, completes_put, settles_kept}
 
 -- what stands in a list of send queues of which one was changed

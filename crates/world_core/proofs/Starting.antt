@@ -27,8 +27,8 @@ use Rattle.scenario_text.specs.declared.scenario.ScenarioParts.{ScenarioParts}
 use Rattle.world_core.specs.Fresh.{fresh_view, fresh_sends_of, fresh_completes_of}
 use Rattle.world_core.specs.Kept.{Sends, Completes, no_sends, no_completes, kept_completions}
 use Rattle.world_core.specs.Machine.{both_of, tables_of, verbs_of, all_dues, dues_at, running_of, at_call}
-use Rattle.world_core.specs.Sane.{Sane, QueueSane, CompletionsSane, IsPair, numbers_in, waiting, into, taken_of, free_on}
-use Rattle.world_core.specs.Sound.{Sound, Stands, SettlesWithin}
+use Rattle.verbs_model.specs.Sane.{Sane, QueueSane, CompletionsSane, IsPair, numbers_in, waiting, into, taken_of, free_on}
+use Rattle.world_core.specs.Sound.{bounds_on, Sound, Stands, SettlesWithin}
 use Rattle.world_core.specs.View.{View, sends_at, completes_at}
 use Rattle.world_core.specs.World.{Leads}
 use Rattle.world_core.proofs.Calling.{first_dues, first_items, first_retires, first_poster, first_proper, programs_drain}
@@ -144,14 +144,14 @@ module _ (s : ScenarioParts) (can : CanRun s) where
       let size : (v.completions cq).size ≡ 2 ^ l.line.log = ap (λ (c : CompletionQueue). c.size) is in
       omega (arith, size, first_into cq, room_for d programs cq l.line can.room (omega (arith, low)) l.there)
 
-  first_completions : (cq : ℕ) → CompletionsSane v.pair_lives v.pairs (v.completions_live cq) cq (v.completions cq) 0 (into v.pairs (taken_of v) cq FIRST_QP (length d.qps)) (into v.pairs (most_on programs) cq FIRST_QP (length d.qps))
+  first_completions : (cq : ℕ) → CompletionsSane v.pair_lives v.pairs (v.completions_live cq) cq (v.completions cq) 0 (into v.pairs (taken_of v) cq FIRST_QP (length d.qps)) (into v.pairs (most_on programs) cq FIRST_QP (length d.qps)) 0
   unfolding zeroed
   first_completions cq =
-      subst (λ (c : CompletionQueue). c.size ≡ (v.completions cq).size → CompletionsSane v.pair_lives v.pairs (v.completions_live cq) cq c 0 (into v.pairs (taken_of v) cq FIRST_QP (length d.qps)) (into v.pairs (most_on programs) cq FIRST_QP (length d.qps))) (empty_completions d cq can.completions)
-      (λ size. record { homed = tt; acked = omega arith; produced = omega arith; fits = λ live. omega (arith, size, first_fits cq live) })
+      subst (λ (c : CompletionQueue). c.size ≡ (v.completions cq).size → CompletionsSane v.pair_lives v.pairs (v.completions_live cq) cq c 0 (into v.pairs (taken_of v) cq FIRST_QP (length d.qps)) (into v.pairs (most_on programs) cq FIRST_QP (length d.qps)) 0) (empty_completions d cq can.completions)
+      (λ size. record { homed = tt; acked = omega arith; begun = omega arith; produced = omega arith; fits = λ live. omega (arith, size, first_fits cq live) })
       refl
 
-  pub first_sane : Sane (length d.qps) (most_on programs) v (first_dues programs)
+  pub first_sane : Sane (length d.qps) (bounds_on programs) v (first_dues programs)
   first_sane = record {
     lives = first_pair;
     queues = λ qp. queue_first (v.queues (Send qp)) (waiting v qp) _ _ _ (empty_queue d qp) (no_waits qp) (omega (arith, first_items qp programs)) (first_retires qp programs);
@@ -215,8 +215,8 @@ module _ (s : ScenarioParts) (can : CanRun s) where
   pub first_sound : Sound d programs w
   first_sound = record {
     stands = first_stands;
-    sane = subst (λ (x : Verbs). Sane (length d.qps) (most_on programs) x (all_dues programs w.completions w.threads)) (sym (first_verbs d (length programs) can.completions))
-        (subst (Sane (length d.qps) (most_on programs) v) (sym (dues_first programs w.completions)) first_sane);
+    sane = subst (λ (x : Verbs). Sane (length d.qps) (bounds_on programs) x (all_dues programs w.completions w.threads)) (sym (first_verbs d (length programs) can.completions))
+        (subst (Sane (length d.qps) (bounds_on programs) v) (sym (dues_first programs w.completions)) first_sane);
     drains = programs_drain d programs can.programs;
   }
 

@@ -9,7 +9,8 @@ use Rattle.world_core.specs.declared.run.Now.TheVariants.{Free, Accept}
 use Rattle.world_core.specs.declared.run.Progress.{Progress}
 use Rattle.world_core.specs.declared.turn.Made.TheVariants.{Poll as PollMade, Post as PostMade, Full}
 use Rattle.world_core.specs.Decoding.{call_at, pair_at, requests_at}
-use Rattle.world_core.specs.Kept.{Sends, Completes, no_sends, no_completes, appended, free_of, left_of, polling}
+use Rattle.verbs_model.specs.State.{free_of}
+use Rattle.world_core.specs.Kept.{Sends, Completes, no_sends, no_completes, appended, left_of, polling}
 use Rattle.world_core.specs.Machine.{at_call}
 use Rattle.world_core.specs.Moves.{accepting_now, settled_now, next_of, ended, CanEnd}
 use Rattle.world_core.specs.Sound.{Sound}

@@ -4,7 +4,7 @@ use Rattle.std.specs.List.{AllByRecursion, flat_map, sum_by, All, range_with_len
 use Rattle.std.specs.Option.{option_to_list}
 use Rattle.std.proofs.lemmas.List.{map-append, length-replicate, take_more, take_all}
 use Rattle.std.proofs.lemmas.List.Concat.{flat_map-append}
-use Rattle.std.proofs.lemmas.List.Sums.{sum_by_more_le}
+use Rattle.std.proofs.lemmas.List.Sums.{sum_by_more_le, sum_by-cons}
 use Rattle.std.proofs.Math.Nat.{suc-mul, mul-le-mul_right}
 use Rattle.std.proofs.lemmas.Option.{get_or_from_slice_get, slice_get_within}
 use Rattle.bus_core.proofs.Lists.{AllByRecursion-push}
@@ -28,7 +28,6 @@ use Rattle.world_core.specs.Steps.{IsWithin, TurnsTo, Steps}
 use Rattle.world_core.specs.View.{View}
 use Rattle.world_core.specs.World.{Leads, WorldView, rounds_of_plan, turns_of_items}
 use Rattle.world_core.specs.WorldInside.{actor_of, IsWorldOf}
-use Rattle.world_core.proofs.Dues.{sum_by-cons}
 use Rattle.world_core.proofs.Histories.{leads_none, leads_made}
 use Rattle.world_core.proofs.Spelled.{history_push, history_stays, all_within_more}
 use Rattle.world_core.proofs.Starting.{first_sound, first_leads}

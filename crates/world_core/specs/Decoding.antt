@@ -6,7 +6,7 @@ use Rattle.verbs_model.specs.declared.request.Item.{Item}
 use Rattle.verbs_model.specs.declared.request.Item.TheVariants.{Request as TheRequest}
 use Rattle.verbs_model.specs.declared.completion.Queue.TheVariants.{Send}
 use Rattle.verbs_model.specs.declared.call.Call.{Call}
-use Rattle.verbs_model.specs.declared.call.Call.TheVariants.{Post as PostCall, Poll as PollCall, Drain}
+use Rattle.verbs_model.specs.declared.call.Call.TheVariants.{Post as PostCall, Recv as RecvCall, Poll as PollCall, Drain}
 use Rattle.verbs_model.specs.declared.declaration.TheConstants.{FIRST_QP}
 use Rattle.verbs_model.specs.declared.entry.Entry.{Entry}
 use Rattle.verbs_model.specs.declared.entry.What.{What}
@@ -22,12 +22,14 @@ use Rattle.world_core.specs.View.{completes_at}
 -- the requests of a post, and none of another call
 abbrev pub requests_of : Call → List Request
 requests_of (PostCall qp requests) = requests
+requests_of (RecvCall qp receives) = []
 requests_of (PollCall cq most) = []
 requests_of (Drain cq count) = []
 
 -- the queue pair of a post, and the first of another call
 abbrev pub pair_of : Call → ℕ
 pair_of (PostCall qp requests) = qp
+pair_of (RecvCall qp receives) = FIRST_QP
 pair_of (PollCall cq most) = FIRST_QP
 pair_of (Drain cq count) = FIRST_QP
 

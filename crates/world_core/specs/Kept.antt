@@ -58,10 +58,6 @@ unpolled_of x = record { completion = completion_of x; number = x.number }
 abbrev pub kept_completions : Completes → CompletionQueue
 kept_completions c = record { size = c.size; produced = length c.published; acked = c.acked; unpolled = map unpolled_of (drop c.polled c.published) }
 
--- how many more requests may be posted now
-abbrev pub free_of : WorkQueue → ℕ
-free_of u = u.room - (length u.posted - u.retired)
-
 -- how many completions are left to poll
 abbrev pub left_of : Completes → ℕ
 left_of c = length c.published - c.polled

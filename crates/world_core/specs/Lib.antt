@@ -4,7 +4,6 @@ pub mod View
 pub mod Moves
 pub mod Decoding
 pub mod Machine
-pub mod Sane
 pub mod Sound
 pub mod Steps
 pub mod World

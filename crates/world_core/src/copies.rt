@@ -3,7 +3,7 @@ ghost use Rattle.std.specs.Prelude.{◌≡◌, IfOk};
 
 use scenario_text::Plan;
 use std::alloc::{AllocError, Global};
-use verbs_model::{Call, Request, Sequence};
+use verbs_model::{Call, Receive, Request, Sequence};
 
 /// The same calls of each thread.
 pub(crate) fn copy_of_programs(
@@ -37,6 +37,10 @@ fn copy_of_call(alloc: Global, call: &Call) -> Result<Call, AllocError>
             let requests = copy_of_requests(alloc, requests.as_slice())?;
             Ok(Call::Post { qp: *qp, requests })
         }
+        Call::Recv { qp, receives } => {
+            let receives = copy_of_receives(alloc, receives.as_slice())?;
+            Ok(Call::Recv { qp: *qp, receives })
+        }
         Call::Poll { cq, max } => Ok(Call::Poll { cq: *cq, max: *max }),
         Call::Drain { cq, count } => Ok(Call::Drain {
             cq: *cq,
@@ -53,6 +57,22 @@ fn copy_of_requests(alloc: Global, requests: &[Request]) -> Result<Sequence<Requ
         copies.push(copy_of_request(request)?)?;
     }
     Ok(Sequence::from_vec(copies))
+}
+
+fn copy_of_receives(alloc: Global, receives: &[Receive]) -> Result<Sequence<Receive>, AllocError>
+    ensures { IfOk result (λ rs. rs ≡ receives.now) }
+{
+    let mut copies = Vec::with_capacity(alloc, receives.len())?;
+    for receive in receives {
+        copies.push(copy_of_receive(receive)?)?;
+    }
+    Ok(Sequence::from_vec(copies))
+}
+
+fn copy_of_receive(receive: &Receive) -> Result<Receive, AllocError>
+    ensures { IfOk result (λ r. r ≡ receive.now) }
+{
+    receive.clone()
 }
 
 fn copy_of_request(request: &Request) -> Result<Request, AllocError>

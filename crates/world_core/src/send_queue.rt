@@ -2,7 +2,8 @@
 ghost use Rattle.std.specs.Prelude.{◌≡◌, ◌+◌, ◌-◌, ◌<◌, ◌≤◌, ◌^◌, ◌∷◌, length, nat_lt, slice_get, Some, IfOk};
 ghost use Rattle.verbs_model.specs.Rows as rows;
 ghost use Rattle.verbs_model.specs.Start.{fresh_queue};
-ghost use Rattle.world_core.specs.Kept.{appended, ending, free_of, item_of, retiring, taking};
+ghost use Rattle.verbs_model.specs.State.{free_of};
+ghost use Rattle.world_core.specs.Kept.{appended, ending, item_of, retiring, taking};
 
 use std::alloc::{AllocError, Global};
 use std::collections::VecDeque;

@@ -1,7 +1,8 @@
 //! What the threads' entries change.
 ghost use Rattle.std.specs.Prelude.{◌≡◌, ◌+◌, ◌-◌, ◌<◌, ◌≤◌, ◌∷◌, length, map, min, take, slice_index_or};
 ghost use Rattle.world_core.specs.Decoding as decoding;
-ghost use Rattle.world_core.specs.Kept.{acking, appended, free_of};
+ghost use Rattle.verbs_model.specs.State.{free_of};
+ghost use Rattle.world_core.specs.Kept.{acking, appended};
 ghost use Rattle.world_core.specs.Moves.{IsRetire, RetiresAt};
 ghost use Rattle.world_core.specs.View.{completes_at, sends_at, view_of, with_completes, with_progress, with_sends};
 ghost use Rattle.world_core.specs.View as views;

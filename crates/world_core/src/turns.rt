@@ -198,6 +198,7 @@ impl Run {
                 next,
                 next + 1,
             )),
+            Call::Recv { .. } => None,
             Call::Poll { cq, max } => Some(self.poll(*cq, *max, thread, next, next + 1)),
             Call::Drain { cq, count } => {
                 self.set_progress(

@@ -1,6 +1,7 @@
 -- A post that has room, and one that has not.
 use Rattle.std.proofs.Common.{◌≡◌, ◌≤◌, ◌+◌, ◌-◌, refl, sym, ◌∙◌, ap, subst, length, arith}
-use Rattle.world_core.specs.Kept.{Sends, free_of}
+use Rattle.verbs_model.specs.State.{free_of}
+use Rattle.world_core.specs.Kept.{Sends}
 use Rattle.world_core.specs.View.{view_of, place_of, sends_at}
 use Rattle.world_core.proofs.Posting.{post_room, post_retired, post_outstanding}
 use Rattle.world_core.proofs.Turning.{post_low, post_read, whole_takes, full_takes}

@@ -4,7 +4,7 @@ use Rattle.std.specs.List.{AllByRecursion}
 use Rattle.std.proofs.lemmas.Bool.{eq-eqb}
 use Rattle.verbs_model.specs.declared.request.Request.{Request}
 use Rattle.verbs_model.specs.declared.request.Item.{Item}
-use Rattle.verbs_model.specs.declared.request.Item.TheVariants.{Request as TheRequest}
+use Rattle.verbs_model.specs.declared.request.Item.TheVariants.{Request as TheRequest, Receive as TheReceive}
 use Rattle.verbs_model.specs.declared.request.Op.TheVariants.{Nop}
 use Rattle.verbs_model.specs.declared.completion.Completion.{Completion}
 use Rattle.verbs_model.specs.declared.completion.Queue.TheVariants.{Send}
@@ -21,18 +21,18 @@ use Rattle.verbs_model.specs.Rows as rows
 use Rattle.verbs_model.specs.Rows.{nop_completion, completion_owed, publish}
 use Rattle.verbs_model.specs.Rules.{names_living}
 use Rattle.verbs_model.specs.Same.{same_queue}
-use Rattle.verbs_model.specs.State.{Verbs}
+use Rattle.verbs_model.specs.State.{Verbs, free_of}
 use Rattle.verbs_model.specs.Step.{after}
 use Rattle.verbs_model.specs.Answered.{Due}
 use Rattle.verbs_model.proofs.Facts.{MayStep_fetch, MayStep_publish, runs_nop}
-use Rattle.world_core.specs.Kept.{free_of}
-use Rattle.world_core.specs.Sane.{Sane, Goes, QueueSane, CompletionsSane, IsNop, IsHomed, IsHomedAct, numbers_in, waiting, completed_by, items_on, retires_on, over_dues, taken_of, free_on, into, owed_into}
-use Rattle.world_core.proofs.Choices.{put_queue, put_completions, differs}
-use Rattle.world_core.proofs.Counting.{into_mono, into_more, one_if}
-use Rattle.world_core.proofs.Queued.{stays, takes, takes_wanted}
-use Rattle.world_core.proofs.Waiting.{numbers-append, numbers_other, numbers_own}
-use Rattle.world_core.proofs.Owing.{owing_free}
-use Rattle.world_core.proofs.GoesSettle.{named_one}
+use Rattle.verbs_model.specs.Proper.{IsNop, items_on, retires_on, over_dues}
+use Rattle.verbs_model.specs.Sane.{Bounds, Sane, Goes, QueueSane, CompletionsSane, IsHomed, IsHomedAct, numbers_in, waiting, completed_by, taken_of, free_on, into, owed_into}
+use Rattle.verbs_model.proofs.Choices.{put_queue, put_completions, differs}
+use Rattle.verbs_model.proofs.Counting.{into_mono, into_more, one_if}
+use Rattle.verbs_model.proofs.Queued.{stays, takes, takes_wanted}
+use Rattle.verbs_model.proofs.Waiting.{numbers-append, numbers_other, numbers_own}
+use Rattle.verbs_model.proofs.Owing.{owing_free}
+use Rattle.verbs_model.proofs.GoesSettle.{named_one}
 
 -- Publish
 
@@ -43,7 +43,7 @@ one_when b = if b then 1 else 0
 abbrev published_now : Verbs → ℕ → Unpolled → List Act → Verbs
 published_now v cq u others = publish v cq (Complete cq u ∷ others)
 
-module _ (n : ℕ) (total : ℕ → ℕ) (v : Verbs) (dues : List (List Due)) (cq : ℕ) (u : Unpolled) (others : List Act) (s : Sane n total v dues) (owed : v.owed ≡ Complete cq u ∷ others) where
+module _ (n : ℕ) (bounds : Bounds) (v : Verbs) (dues : List (List Due)) (cq : ℕ) (u : Unpolled) (others : List Act) (s : Sane n bounds v dues) (owed : v.owed ≡ Complete cq u ∷ others) where
   abbrev now : Verbs
   now = published_now v cq u others
 
@@ -76,29 +76,30 @@ module _ (n : ℕ) (total : ℕ → ℕ) (v : Verbs) (dues : List (List Due)) (c
   one_more : one_when (cq == cq) ≡ 1
   one_more = ap one_when (eq-eqb cq cq refl)
 
-  completions_after : (k : ℕ) → CompletionsSane v.pair_lives v.pairs (v.completions_live k) k (now.completions k) (owed_into k others) (into v.pairs (taken_of v) k FIRST_QP n) (into v.pairs total k FIRST_QP n)
+  completions_after : (k : ℕ) → CompletionsSane v.pair_lives v.pairs (v.completions_live k) k (now.completions k) (owed_into k others) (into v.pairs (taken_of v) k FIRST_QP n) (into v.pairs bounds.posts k FIRST_QP n) (bounds.first k)
   completions_after =
-      put_completions (λ k c. CompletionsSane v.pair_lives v.pairs (v.completions_live k) k c (owed_into k others) (into v.pairs (taken_of v) k FIRST_QP n) (into v.pairs total k FIRST_QP n)) v.completions cq (record (v.completions cq) { produced = (v.completions cq).produced + 1; unpolled = (v.completions cq).unpolled ++ u ∷ [] })
+      put_completions (λ k c. CompletionsSane v.pair_lives v.pairs (v.completions_live k) k c (owed_into k others) (into v.pairs (taken_of v) k FIRST_QP n) (into v.pairs bounds.posts k FIRST_QP n) (bounds.first k)) v.completions cq (record (v.completions cq) { produced = (v.completions cq).produced + 1; unpolled = (v.completions cq).unpolled ++ u ∷ [] })
       (let c = s.completions cq in
       let long : length ((v.completions cq).unpolled ++ u ∷ []) ≡ length (v.completions cq).unpolled + 1 = length-append (v.completions cq).unpolled (u ∷ []) in
-      record { homed = homed_push (v.completions cq).unpolled c.homed; acked = omega (arith, c.acked, long); produced = omega (arith, c.produced, owed_more cq, one_more); fits = c.fits })
+      record { homed = homed_push (v.completions cq).unpolled c.homed; acked = omega (arith, c.acked, long); begun = c.begun; produced = omega (arith, c.produced, owed_more cq, one_more); fits = c.fits })
       (λ k apart.
       let c = s.completions k in
       let none : one_when (cq == k) ≡ 0 = ap one_when (differs cq k (λ e. apart (sym e))) in
-      record { homed = c.homed; acked = c.acked; produced = omega (arith, c.produced, owed_more k, none); fits = c.fits })
+      record { homed = c.homed; acked = c.acked; begun = c.begun; produced = omega (arith, c.produced, owed_more k, none); fits = c.fits })
 
-  total_taken : (i : ℕ) → taken_of v i ≤ total i
+  total_taken : (i : ℕ) → taken_of v i ≤ bounds.posts i
   total_taken i = omega (arith, (s.queues i).taken, (s.queues i).posts)
 
-  -- room for one more
-  pub publish_room : (v.completions cq).produced < (v.completions cq).size
+  -- what was published and what is owed fits, since all that can be taken fits
+  pub publish_room : (v.completions cq).produced < bounds.first cq + (v.completions cq).size
   publish_room =
       let c = s.completions cq in
       let live : v.completions_live cq ≡ true = ap v.completions_live (sym home.home) ∙ (s.lives u.completion.qp home.living).home in
-      omega (arith, c.produced, owed_more cq, one_more, into_mono v.pairs (taken_of v) total cq FIRST_QP n total_taken, c.fits live)
+      omega (arith, c.produced, owed_more cq, one_more, into_mono v.pairs (taken_of v) bounds.posts cq FIRST_QP n total_taken, c.fits live)
 
-  pub publish_goes : (x : Completion) → x ≡ u.completion → Goes n total v 0 (Publish cq x) dues
-  publish_goes x is = record {
+  -- while fewer are unacknowledged than fit
+  pub publish_shown : (x : Completion) → x ≡ u.completion → (v.completions cq).produced - (v.completions cq).acked < (v.completions cq).size → Goes n bounds v 0 (Publish cq x) dues
+  publish_shown x is room = record {
     legal = MayStep_publish {v = v} {cq = cq} (record {
       adapter = refl;
       lives = ap v.completions_live (sym home.home) ∙ (s.lives u.completion.qp home.living).home;
@@ -106,17 +107,21 @@ module _ (n : ℕ) (total : ℕ → ℕ) (v : Verbs) (dues : List (List Due)) (c
       first = u;
       others = others;
       owed = owed;
-      room = omega (arith, publish_room);
+      room = room;
       content = is;
     });
-    sane = subst (λ (acts : List Act). Sane n total (publish v cq acts) dues) (sym owed) (record {
+    sane = subst (λ (acts : List Act). Sane n bounds (publish v cq acts) dues) (sym owed) (record {
       lives = s.lives;
-      queues = λ i. stays (v.queues (Send i)) (waiting v i) (waiting now i) _ _ _ _ (total i) (waits_same i) (omega arith) refl (s.queues i);
+      queues = λ i. stays (v.queues (Send i)) (waiting v i) (waiting now i) _ _ _ _ (bounds.posts i) (waits_same i) (omega arith) refl (s.queues i);
       completions = completions_after;
       hand = homed_owed.1;
       owing = s.owing;
     });
   }
+
+  -- always
+  pub publish_goes : (x : Completion) → x ≡ u.completion → Goes n bounds v 0 (Publish cq x) dues
+  publish_goes x is = publish_shown x is (omega (arith, publish_room, (s.completions cq).begun, (s.completions cq).acked))
 
 -- Fetch
 
@@ -136,7 +141,7 @@ nop_at [] k r h e = absurd (cc e)
 nop_at (i ∷ items) zero r h e = let same : i ≡ TheRequest r = cc e in (subst IsNop same h.0).0
 nop_at (i ∷ items) (suc k) r h e = nop_at items k r h.1 e
 
-module _ (n : ℕ) (total : ℕ → ℕ) (v : Verbs) (dues : List (List Due)) (qp : ℕ) (r : Request) (s : Sane n total v dues) (lives : v.pair_lives qp ≡ true) (sends : (v.pairs qp).state ≡ Rts) (idle : v.owed ≡ []) (there : slice_get (v.queues (Send qp)).posted (taken_of v qp) ≡ Some (TheRequest r)) (more : taken_of v qp < length (v.queues (Send qp)).posted) where
+module _ (n : ℕ) (bounds : Bounds) (v : Verbs) (dues : List (List Due)) (qp : ℕ) (r : Request) (s : Sane n bounds v dues) (lives : v.pair_lives qp ≡ true) (sends : (v.pairs qp).state ≡ Rts) (idle : v.owed ≡ []) (there : slice_get (v.queues (Send qp)).posted (taken_of v qp) ≡ Some (TheRequest r)) (more : taken_of v qp < length (v.queues (Send qp)).posted) where
   abbrev pub number : ℕ
   number = taken_of v qp + 1
 
@@ -174,13 +179,13 @@ module _ (n : ℕ) (total : ℕ → ℕ) (v : Verbs) (dues : List (List Due)) (q
       let grows : taken_of v (FIRST_QP + (qp - FIRST_QP)) + 1 ≤ taken_of (fetched []) (FIRST_QP + (qp - FIRST_QP)) = subst (λ i. taken_of v i + 1 ≤ taken_of (fetched []) i) (sym back) taken_one in
       subst (λ i. into v.pairs (taken_of v) k FIRST_QP n + one_if v.pairs k i ≤ into v.pairs (taken_of (fetched [])) k FIRST_QP n) back (into_more v.pairs (taken_of v) (taken_of (fetched [])) k FIRST_QP n (qp - FIRST_QP) taken_up p.most grows)
 
-  nothing_owed : Sane n total (fetched []) dues
+  nothing_owed : Sane n bounds (fetched []) dues
   nothing_owed = record {
     lives = s.lives;
-    queues = put_queue (λ i u. QueueSane u (waiting (fetched []) i) (over_dues (items_on i) dues) (over_dues (retires_on i) dues) (total i)) v.queues qp (rows.take (v.queues (Send qp)) number)
-        (takes (v.queues (Send qp)) (waiting v qp) (waiting (fetched []) qp) _ _ (total qp) (sym (idle_waits qp)) more (s.queues qp))
-        (λ i apart. stays (v.queues (Send i)) (waiting v i) (waiting (fetched []) i) _ _ _ _ (total i) (sym (idle_waits i)) (omega arith) refl (s.queues i));
-    completions = λ k. let c = s.completions k in record { homed = c.homed; acked = c.acked; produced = omega (arith, c.produced, idle_owes k, one_taken k); fits = c.fits };
+    queues = put_queue (λ i u. QueueSane u (waiting (fetched []) i) (over_dues (items_on i) dues) (over_dues (retires_on i) dues) (bounds.posts i)) v.queues qp (rows.take (v.queues (Send qp)) number)
+        (takes (v.queues (Send qp)) (waiting v qp) (waiting (fetched []) qp) _ _ (bounds.posts qp) (sym (idle_waits qp)) more (s.queues qp))
+        (λ i apart. stays (v.queues (Send i)) (waiting v i) (waiting (fetched []) i) _ _ _ _ (bounds.posts i) (sym (idle_waits i)) (omega arith) refl (s.queues i));
+    completions = λ k. let c = s.completions k in record { homed = c.homed; acked = c.acked; begun = c.begun; produced = omega (arith, c.produced, idle_owes k, one_taken k); fits = c.fits };
     hand = tt;
     owing = owing_free v.pair_lives v.completions_live (free_on v) (free_on (fetched [])) dues free_same s.owing;
   }
@@ -204,25 +209,25 @@ module _ (n : ℕ) (total : ℕ → ℕ) (v : Verbs) (dues : List (List Due)) (q
       ap (λ (ns : List ℕ). numbers_in i (v.completions (v.pairs i).send_cq).unpolled ++ ns) (numbers_other v.pair_lives v.pairs (v.pairs qp).send_cq i wanted [] homed_here apart)
       ∙ sym (idle_waits i)
 
-  one_owed : Sane n total (fetched (act ∷ [])) dues
+  one_owed : Sane n bounds (fetched (act ∷ [])) dues
   one_owed = record {
     lives = s.lives;
-    queues = put_queue (λ i u. QueueSane u (waiting (fetched (act ∷ [])) i) (over_dues (items_on i) dues) (over_dues (retires_on i) dues) (total i)) v.queues qp (rows.take (v.queues (Send qp)) number)
-        (takes_wanted (v.queues (Send qp)) (waiting v qp) (waiting (fetched (act ∷ [])) qp) _ _ (total qp) wanted_waits more (s.queues qp))
-        (λ i apart. stays (v.queues (Send i)) (waiting v i) (waiting (fetched (act ∷ [])) i) _ _ _ _ (total i) (other_waits i apart) (omega arith) refl (s.queues i));
+    queues = put_queue (λ i u. QueueSane u (waiting (fetched (act ∷ [])) i) (over_dues (items_on i) dues) (over_dues (retires_on i) dues) (bounds.posts i)) v.queues qp (rows.take (v.queues (Send qp)) number)
+        (takes_wanted (v.queues (Send qp)) (waiting v qp) (waiting (fetched (act ∷ [])) qp) _ _ (bounds.posts qp) wanted_waits more (s.queues qp))
+        (λ i apart. stays (v.queues (Send i)) (waiting v i) (waiting (fetched (act ∷ [])) i) _ _ _ _ (bounds.posts i) (other_waits i apart) (omega arith) refl (s.queues i));
     completions = λ k.
         let c = s.completions k in
         let one : owed_into k (act ∷ []) ≡ one_if v.pairs k qp + 0 = refl in
-        record { homed = c.homed; acked = c.acked; produced = omega (arith, c.produced, idle_owes k, one, one_taken k); fits = c.fits };
+        record { homed = c.homed; acked = c.acked; begun = c.begun; produced = omega (arith, c.produced, idle_owes k, one, one_taken k); fits = c.fits };
     hand = (homed_here, tt);
     owing = owing_free v.pair_lives v.completions_live (free_on v) (free_on (fetched [])) dues free_same s.owing;
   }
 
-  either_owed : (b : Bool) → Sane n total (fetched (if b then act ∷ [] else [])) dues
+  either_owed : (b : Bool) → Sane n bounds (fetched (if b then act ∷ [] else [])) dues
   either_owed true = one_owed
   either_owed false = nothing_owed
 
-  pub fetch_goes : Goes n total v 0 (Fetch (Send qp) number) dues
+  pub fetch_goes : Goes n bounds v 0 (Fetch (Send qp) number) dues
   fetch_goes = record {
     legal = MayStep_fetch {v = v} {queue = Send qp} (record {
       adapter = refl;
@@ -232,5 +237,19 @@ module _ (n : ℕ) (total : ℕ → ℕ) (v : Verbs) (dues : List (List Due)) (q
       posted = omega (arith, more);
       content = runs_nop v qp number r sends item_there (nop_at (v.queues (Send qp)).posted (taken_of v qp) r (s.queues qp).nops there);
     });
-    sane = subst (λ (w : Verbs). Sane n total w dues) (sym is_fetched) (either_owed r.wanted);
+    sane = subst (λ (w : Verbs). Sane n bounds w dues) (sym is_fetched) (either_owed r.wanted);
   }
+
+request_at : (items : List Item) (k : ℕ) → AllByRecursion IsNop items → k < length items → (r : Request) × (slice_get items k ≡ Some (TheRequest r))
+request_at [] k h low = absurd (omega (arith, low))
+request_at (TheRequest r ∷ items) zero h low = (r, refl)
+request_at (TheReceive r ∷ items) zero h low = absurd h.0
+request_at (i ∷ items) (suc k) h low = request_at items k h.1 (omega (arith, low))
+
+-- told by the request's number, which was seen as posted
+pub fetch_shown : (n : ℕ) (bounds : Bounds) (v : Verbs) (dues : List (List Due)) (qp number : ℕ) → Sane n bounds v dues → v.pair_lives qp ≡ true → (v.pairs qp).state ≡ Rts → v.owed ≡ [] → number ≡ taken_of v qp + 1 → number ≤ length (v.queues (Send qp)).posted
+    → Goes n bounds v 0 (Fetch (Send qp) number) dues
+fetch_shown n bounds v dues qp number s lives sends idle next posted =
+    let low : taken_of v qp < length (v.queues (Send qp)).posted = omega (arith, next, posted) in
+    let r = request_at (v.queues (Send qp)).posted (taken_of v qp) (s.queues qp).nops low in
+    subst (λ k. Goes n bounds v 0 (Fetch (Send qp) k) dues) (sym next) (fetch_goes n bounds v dues qp r.0 s lives sends idle r.1 low)

@@ -4,27 +4,26 @@ use Rattle.std.specs.List.{list_any, AllByRecursion}
 use Rattle.std.proofs.lemmas.Bool.{false≢true}
 use Rattle.std.proofs.lemmas.List.{get_or-set_same, get_or-set_other}
 use Rattle.std.proofs.Math.ListN.{length-set}
-use Rattle.verbs_model.specs.declared.completion.Queue.{Queue}
-use Rattle.verbs_model.specs.declared.completion.Queue.TheVariants.{Send}
+use Rattle.verbs_model.specs.declared.completion.Queue.TheVariants.{Send, Recv, Shared}
 use Rattle.verbs_model.specs.declared.request.Item.{Item}
-use Rattle.verbs_model.specs.Same.{same_queue}
 use Rattle.verbs_model.proofs.Sameness.{same_queue_refl}
 use Rattle.verbs_model.specs.Answered.{Due, Posting, Accepting, Polling, Draining, Retiring, Acking}
-use Rattle.world_core.specs.Sane.{Owing, OnePosts, AreProper, IsProper, IsNext, Owes, dues_of_thread, posts_on}
-use Rattle.world_core.proofs.Choices.{either}
+use Rattle.verbs_model.specs.Proper.{Owing, OnePosts, AreProper, IsProper, IsNext, Owes, dues_of_thread, posts_on}
+use Rattle.verbs_model.proofs.Choices.{either}
 
 -- of a thread that owes other entries
 module _ (pairs cqs : ℕ → Bool) (free free' : ℕ → ℕ) where
-  room_by : (qp : ℕ) (queue : Queue) (items : List Item) (ds : List Due) → queue ≡ Send qp → length items ≤ free qp → (free qp ≤ free' qp) ⊎ (list_any (posts_on qp) (Accepting queue items ∷ ds) ≡ false) → length items ≤ free' qp
-  room_by qp queue items ds is room (inl le) = omega (arith, room, le)
-  room_by qp queue items ds is room (inr none) =
-      let posts : list_any (posts_on qp) (Accepting queue items ∷ ds) ≡ true = ap (λ q. same_queue (Send qp) q || list_any (posts_on qp) ds) is ∙ ap (λ b. b || list_any (posts_on qp) ds) (same_queue_refl (Send qp)) in
+  room_by : (qp : ℕ) (items : List Item) (ds : List Due) → length items ≤ free qp → (free qp ≤ free' qp) ⊎ (list_any (posts_on qp) (Accepting (Send qp) items ∷ ds) ≡ false) → length items ≤ free' qp
+  room_by qp items ds room (inl le) = omega (arith, room, le)
+  room_by qp items ds room (inr none) =
+      let posts : list_any (posts_on qp) (Accepting (Send qp) items ∷ ds) ≡ true = ap (λ b. b || list_any (posts_on qp) ds) (same_queue_refl (Send qp)) in
       absurd (false≢true (sym none ∙ posts))
 
   pub proper_other : (ds : List Due) → ((qp : ℕ) → (free qp ≤ free' qp) ⊎ (list_any (posts_on qp) ds ≡ false)) → AreProper pairs cqs free ds → AreProper pairs cqs free' ds
   proper_other [] more h = tt
-  proper_other (Accepting queue items ∷ ds) more h =
-      (record { qp = h.0.qp; is = h.0.is; living = h.0.living; some = h.0.some; nops = h.0.nops; room = room_by h.0.qp queue items ds h.0.is h.0.room (more h.0.qp) }, h.1)
+  proper_other (Accepting (Send qp) items ∷ ds) more h = (record { living = h.0.living; some = h.0.some; nops = h.0.nops; room = room_by qp items ds h.0.room (more qp) }, h.1)
+  proper_other (Accepting (Recv qp) items ∷ ds) more h = h
+  proper_other (Accepting (Shared srq) items ∷ ds) more h = absurd h.0
   proper_other (Posting queue items ∷ ds) more h = h
   proper_other (Polling cq most ∷ ds) more h = h
   proper_other (Draining cq ∷ ds) more h = h

@@ -1,11 +1,11 @@
 -- Sums over queue pairs, and over what the threads owe.
-use Rattle.std.proofs.Common.{◌≡◌, ℕ, zero, suc, ◌+◌, ◌<◌, ◌≤◌, ◌==◌, Bool, true, false, if◌then◌else◌, List, [], ◌++◌, refl, ◌∙◌, ap, subst, arith, slice_index_or, slice_set}
+use Rattle.std.proofs.Common.{◌≡◌, ℕ, zero, suc, ◌+◌, ◌<◌, ◌≤◌, ◌==◌, Bool, true, false, if◌then◌else◌, List, [], ◌++◌, length, refl, ◌∙◌, ap, subst, arith, slice_index_or, slice_set}
 use Rattle.std.specs.List.{sum_by}
-use Rattle.std.proofs.lemmas.List.Sums.{sum_by-append}
+use Rattle.std.proofs.lemmas.List.Sums.{sum_by-append, sum_by-cons, sum_by-set}
 use Rattle.verbs_model.specs.declared.state.QueuePair.{QueuePair}
 use Rattle.verbs_model.specs.Answered.{Due}
-use Rattle.world_core.specs.Sane.{into, over_dues, Owes}
-use Rattle.world_core.proofs.Dues.{over_dues-set, sum_by-cons}
+use Rattle.verbs_model.specs.Proper.{over_dues, Owes}
+use Rattle.verbs_model.specs.Sane.{into}
 
 if_mono : (b : Bool) (m n : ℕ) → m ≤ n → (if b then m else 0) ≤ (if b then n else 0)
 if_mono true m n le = le
@@ -36,6 +36,10 @@ into_more pairs f g cq qp (suc n) (suc k) le low more =
     let one : one_if pairs cq (qp + suc k) ≡ one_if pairs cq (qp + 1 + k) = ap (one_if pairs cq) there in
     let grows : f (qp + 1 + k) + 1 ≤ g (qp + 1 + k) = subst (λ i. f i + 1 ≤ g i) there more in
     omega (arith, one, if_mono ((pairs qp).send_cq == cq) (f qp) (g qp) (le qp), into_more pairs f g cq (qp + 1) n k le (omega (arith, low)) grows)
+
+-- sums over what the threads owe, as one of them owes something else
+over_dues-set : (count : Due → ℕ) (dues : List (List Due)) (t : ℕ) (ds : List Due) → t < length dues → over_dues count (slice_set dues t ds) + sum_by count (slice_index_or dues t []) ≡ over_dues count dues + sum_by count ds
+over_dues-set count dues t ds low = sum_by-set (λ (xs : List Due). sum_by count xs) dues t ds [] low
 
 -- the sum over what all owe, as one thread owes something else
 pub over_after : (count : Due → ℕ) (dues : List (List Due)) (t : ℕ) (due : Due) (rest left : List Due) → Owes dues t due rest → over_dues count (slice_set dues t (left ++ rest)) + count due ≡ over_dues count dues + sum_by count left

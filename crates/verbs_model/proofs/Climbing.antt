@@ -1,6 +1,6 @@
 -- Numbers that ascend.
 use Rattle.std.proofs.Common.{ℕ, ◌+◌, ◌<◌, ◌≤◌, List, [], ◌∷◌, ◌++◌, length, arith}
-use Rattle.world_core.specs.Sane.{Climbs}
+use Rattle.verbs_model.specs.Sane.{Climbs}
 
 pub climbs_length : (least most : ℕ) (ns : List ℕ) → Climbs least ns most → least + length ns ≤ most
 climbs_length least most [] h = omega (arith, h)

@@ -1,12 +1,12 @@
 -- A send queue stays in bounds at each kind of entry.
-use Rattle.std.proofs.Common.{◌≡◌, ℕ, suc, ◌+◌, ◌<◌, ◌≤◌, List, [], ◌∷◌, ◌++◌, length, sym, ◌∙◌, ap, subst, arith, length-append, append_assoc}
+use Rattle.std.proofs.Common.{◌≡◌, ℕ, suc, ◌+◌, ◌-◌, ◌<◌, ◌≤◌, List, [], ◌∷◌, ◌++◌, length, sym, ◌∙◌, ap, subst, arith, length-append, append_assoc}
 use Rattle.std.specs.List.{AllByRecursion}
 use Rattle.verbs_model.specs.declared.request.Item.{Item}
 use Rattle.verbs_model.specs.Rows as rows
-use Rattle.verbs_model.specs.State.{WorkQueue}
-use Rattle.world_core.specs.Kept.{free_of}
-use Rattle.world_core.specs.Sane.{QueueSane, Climbs, IsNop}
-use Rattle.world_core.proofs.Climbing.{climbs_length, climbs_more, climbs_push}
+use Rattle.verbs_model.specs.State.{WorkQueue, free_of}
+use Rattle.verbs_model.specs.Proper.{IsNop}
+use Rattle.verbs_model.specs.Sane.{QueueSane, Climbs}
+use Rattle.verbs_model.proofs.Climbing.{climbs_length, climbs_more, climbs_push}
 
 -- what is outstanding was taken or not
 pub retired_low : (u : WorkQueue) (w : List ℕ) (i r total : ℕ) → QueueSane u w i r total → u.retired ≤ u.taken
@@ -17,6 +17,20 @@ pub ends_fit : (u : WorkQueue) (w : List ℕ) (i r total : ℕ) → QueueSane u 
 ends_fit u w i r total q =
     let long : length (u.ends ++ w) ≡ length u.ends + length w = length-append u.ends w in
     omega (arith, climbs_length u.retired u.taken (u.ends ++ w) q.under_way, long, q.taken, q.outstanding)
+
+-- so many more fit, told by what is retired or by what is free
+pub fits_by_room : (u : WorkQueue) (w : List ℕ) (i r total m : ℕ) → QueueSane u w i r total → length u.posted + m - u.retired ≤ u.room → m ≤ free_of u
+fits_by_room u w i r total m q room = omega (arith, room, retired_low u w i r total q, q.taken)
+
+pub room_by_free : (u : WorkQueue) (w : List ℕ) (i r total m : ℕ) → QueueSane u w i r total → m ≤ free_of u → length u.posted + m - u.retired ≤ u.room
+room_by_free u w i r total m q fits = omega (arith, fits, q.outstanding, retired_low u w i r total q, q.taken)
+
+-- a queue is full with as many more as are free, and with no other number
+pub free_by_full : (u : WorkQueue) (w : List ℕ) (i r total pending : ℕ) → QueueSane u w i r total → length u.posted + pending - u.retired ≡ u.room → pending ≡ free_of u
+free_by_full u w i r total pending q full = omega (arith, full, retired_low u w i r total q, q.taken, q.outstanding)
+
+pub full_by_free : (u : WorkQueue) (w : List ℕ) (i r total : ℕ) → QueueSane u w i r total → length u.posted + free_of u - u.retired ≡ u.room
+full_by_free u w i r total q = omega (arith, retired_low u w i r total q, q.taken, q.outstanding)
 
 -- as much or less is to be posted
 pub stays : (u : WorkQueue) (w w' : List ℕ) (i i' r r' total : ℕ) → w' ≡ w → i' ≤ i → r' ≡ r → QueueSane u w i r total → QueueSane u w' i' r' total

@@ -12,8 +12,8 @@ use Rattle.verbs_model.specs.Rows.{end, end_all}
 use Rattle.verbs_model.specs.Same.{same_queue}
 use Rattle.verbs_model.specs.State.{WorkQueue}
 use Rattle.verbs_model.proofs.Sameness.{same_queue-true}
-use Rattle.world_core.specs.Sane.{numbers_in, IsHomed}
-use Rattle.world_core.proofs.Choices.{differs}
+use Rattle.verbs_model.specs.Sane.{numbers_in, IsHomed}
+use Rattle.verbs_model.proofs.Choices.{differs}
 
 abbrev pub completion_in : Unpolled → Completion
 completion_in u = u.completion
