@@ -18,3 +18,4 @@ pub mod Knowing
 pub mod Says
 pub mod Law
 pub mod Kept
+pub mod Dropped

@@ -5,6 +5,7 @@ pub mod Poster
 pub mod Retirer
 pub mod Device
 pub mod Turn
+pub mod Rung
 pub mod RetirerView
 pub mod RetirerInside
 pub mod DeviceView

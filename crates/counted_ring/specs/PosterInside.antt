@@ -4,9 +4,10 @@ use Rattle.work_entries.specs.declared.units.SendWords.{SendWords}
 use Rattle.counted_ring.specs.declared.place.WqPlace.{WqPlace}
 use Rattle.counted_ring.specs.declared.poster.Phase.{Phase}
 use Rattle.counted_ring.specs.declared.poster.Phase.TheVariants as phases
+use Rattle.counted_ring.specs.declared.poster.Posts.{Posts}
 use Rattle.counted_ring.specs.declared.poster.WqPoster.TheInside.{Inside}
 use Rattle.counted_ring.specs.Place.{IsPlace, is_send, span, entry_words}
-use Rattle.counted_ring.specs.Poster.{Stage, Ready, Storing, Naming, Counting, Ringing}
+use Rattle.counted_ring.specs.Poster.{Stage, Ready, Storing, Naming, Counting, Ringing, Poster}
 use Rattle.counted_ring.specs.PosterView.{PosterView, PosterTask, Posting, Doorbell}
 
 abbrev pub stage_in : WqPlace → SendWords → ℕ → Phase → Stage
@@ -27,10 +28,14 @@ task_in place entry id phases.Counting = Some (Posting (entry_words place entry)
 task_in place entry id phases.Recording = Some Doorbell
 task_in place entry id phases.Ringing = Some Doorbell
 
+abbrev pub side_in : Posts → Stage → Poster
+side_in posts stage = record { count = posts.count; index = posts.index; first = posts.first; stage = stage }
+
 abbrev pub poster_view : Inside → PosterView
 poster_view a = record {
   place = a.place;
-  side = record { count = a.count; index = a.index; first = a.first; stage = stage_in a.place a.entry a.id a.phase };
+  side = side_in a.posts (stage_in a.place a.entry a.id a.phase);
+  rung = side_in a.rung Ready;
   task = task_in a.place a.entry a.id a.phase;
   seen = a.seen;
 }
@@ -52,5 +57,6 @@ IsAtWork place count index entry phases.Ringing = is_send place ≡ true
 
 pub record IsPoster (a : Inside) : Type 0 where
   pub place_ok : IsPlace a.place
-  pub low_index : a.index < 2 ^ 63
-  pub work : IsAtWork a.place a.count a.index a.entry a.phase
+  pub low_index : a.posts.index < 2 ^ 63
+  pub low_rung : a.rung.index < 2 ^ 63
+  pub work : IsAtWork a.place a.posts.count a.posts.index a.entry a.phase

@@ -1,5 +1,5 @@
 -- What a poster is to a caller, and what a turn of it does.
-use Rattle.std.specs.Prelude.{ℕ, ◌≡◌, ◌-◌, ◌<◌, List, length, true, Option, Some, None}
+use Rattle.std.specs.Prelude.{ℕ, ◌≡◌, ◌-◌, ◌<◌, List, length, Bool, true, false, Option, Some, None}
 use Rattle.bus_core.specs.declared.operation.BusEntry.{BusEntry}
 use Rattle.bus_core.specs.declared.turn.Step.{Step}
 use Rattle.bus_core.specs.declared.turn.Step.TheVariants.{More, Gave, Done}
@@ -11,6 +11,7 @@ use Rattle.counted_ring.specs.Place.{touches}
 use Rattle.counted_ring.specs.Queue.{WqEvent, Wrote, Full}
 use Rattle.counted_ring.specs.Poster.{Stage, Ready, Storing, Naming, Counting, Ringing, Poster, MayPost, MayRing, after_post, after_ring, post_says, ring_says}
 use Rattle.counted_ring.specs.Mark.{WqMark, Post, Ring, Foreign}
+use Rattle.counted_ring.specs.Rung.{rung_after}
 use Rattle.counted_ring.specs.Turn.{task_after}
 
 pub data PosterTask : Type 0 where
@@ -21,6 +22,8 @@ pub data PosterTask : Type 0 where
 pub record PosterView : Type 0 where
   pub place : WqPlace
   pub side : Poster
+  -- the side at the last ring, at first the one before the first post
+  pub rung : Poster
   pub task : Option PosterTask
   -- the tail that was loaded last, at first 0
   pub seen : ℕ
@@ -72,6 +75,19 @@ seen_after None stage seen e = seen
 seen_after (Some (Posting words id)) stage seen e = seen_at stage seen e
 seen_after (Some Doorbell) stage seen e = seen
 
+-- what is under way is done exactly where the next operation begins something
+abbrev pub is_done : Step (Unit {0}) Posted → Bool
+is_done More = false
+is_done (Gave part) = false
+is_done (Done answer) = true
+
+abbrev pub is_ready : Stage → Bool
+is_ready Ready = true
+is_ready (Storing words) = false
+is_ready (Naming words) = false
+is_ready (Counting words id) = false
+is_ready Ringing = false
+
 -- how many turns the task still takes
 abbrev pub stage_turns : Stage → ℕ
 stage_turns Ready = 36
@@ -91,6 +107,19 @@ pub record PosterTurn (old new : PosterView) (e : BusEntry) (answer : Step (Unit
   pub side : new.side ≡ after_bring old.place old.side (mark_of old.task) e
   pub says : answer_says old.task old.side answer ≡ brought old.place old.side (mark_of old.task) e
   pub task : new.task ≡ task_after old.task answer
+  pub done : is_done answer ≡ is_ready new.side.stage
+  pub rung : new.rung ≡ rung_after (mark_of old.task) old.side old.rung
   pub fewer : turns_left new.task new.side.stage < turns_left old.task old.side.stage
   pub seen : new.seen ≡ seen_after old.task old.side.stage old.seen e
   pub place : new.place ≡ old.place
+
+-- a poster of an empty queue, whose first block has this index
+abbrev pub fresh_side : ℕ → Poster
+fresh_side index = record { count = 0; index = index; first = 0; stage = Ready }
+
+abbrev pub fresh : WqPlace → ℕ → PosterView
+fresh place index = record { place = place; side = fresh_side index; rung = fresh_side index; task = None; seen = 0 }
+
+-- an idle poster that has posted only what was rung
+abbrev pub forgotten : PosterView → PosterView
+forgotten p = record { place = p.place; side = p.rung; rung = p.rung; task = None; seen = p.seen }

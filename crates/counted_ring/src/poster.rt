@@ -3,8 +3,7 @@ ghost use Rattle.std.specs.Prelude.{◌≡◌, ◌<◌, ◌^◌, ◌↔◌, IsTr
 ghost use Rattle.bus_core.specs.Port.{Appends};
 ghost use Rattle.bus_core.specs.declared.operation.BusEntry.{BusEntry};
 ghost use Rattle.counted_ring.specs.Place.{IsPlace, span, entry_words};
-ghost use Rattle.counted_ring.specs.Poster.{Ready};
-ghost use Rattle.counted_ring.specs.PosterView.{PosterTurn, Posting, Doorbell};
+ghost use Rattle.counted_ring.specs.PosterView.{PosterTurn, Posting, Doorbell, fresh, forgotten};
 ghost use Rattle.counted_ring.specs.Turn.{CanServe, count_note};
 
 use crate::place::{WqPlace, outstanding};
@@ -22,6 +21,14 @@ pub enum Posted {
     /// As many requests as may be are not retired, and nothing was stored: `head` requests were
     /// posted, and the tail that was loaded is `tail`.
     Full { head: u64, tail: u64 },
+}
+
+/// How many requests were posted, the block index of the next one, and the first word of the last one.
+#[derive(Clone, Copy)]
+struct Posts {
+    count: u64,
+    index: u64,
+    first: u64,
 }
 
 /// What a poster is at; `Storing` has the number of words stored.
@@ -44,9 +51,9 @@ enum Phase {
 #[derive(Drop)]
 pub struct WqPoster {
     place: WqPlace,
-    count: u64,
-    index: u64,
-    first: u64,
+    posts: Posts,
+    /// What was posted at the last ring.
+    rung: Posts,
     entry: SendWords,
     id: u64,
     phase: Phase,
@@ -71,13 +78,17 @@ impl WqPoster {
     pub fn new(at: WqPlace, start: u64) -> WqPoster
         requires place { IsPlace at }
         requires index { start < 2 ^ 62 }
-        ensures { result ≡ record { place = at; side = record { count = 0; index = start; first = 0; stage = Ready }; task = None; seen = 0 } }
+        ensures { result ≡ fresh at start }
     {
-        WqPoster {
-            place: at,
+        let none = Posts {
             count: 0,
             index: start,
             first: 0,
+        };
+        WqPoster {
+            place: at,
+            posts: none,
+            rung: none,
             entry: SendWords {
                 blocks: 1,
                 words: [0; 32],
@@ -117,6 +128,13 @@ impl WqPoster {
         matches!(self.phase, Phase::Idle)
     }
 
+    /// The block index of the request that comes next.
+    pub fn index(&self) -> u64
+        ensures { result ≡ self.now.side.index }
+    {
+        self.posts.index
+    }
+
     /// The tail that the last load of it showed, in field `a`; 0 before the first.
     pub fn seen(&self) -> Note
         ensures { result ≡ count_note self.now.seen }
@@ -131,6 +149,15 @@ impl WqPoster {
         }
     }
 
+    /// Drops what is under way and all that was posted since the last ring: the poster is idle, and posts
+    /// on from what was rung. The device knows of none of it.
+    pub fn forget(&mut self)
+        ensures { self.new ≡ forgotten self.old }
+    {
+        self.posts = self.rung;
+        self.phase = Phase::Idle;
+    }
+
     /// Makes one operation.
     pub fn turn<P: BusPort>(&mut self, port: &mut P) -> Step<(), Posted>
         requires busy { IsSome self.old.task }
@@ -141,19 +168,19 @@ impl WqPoster {
             Phase::Idle => unreachable!(),
             Phase::Asking => {
                 self.seen = port.load(self.place.tail);
-                if outstanding(self.count, self.seen) < self.place.max_post as u64 {
+                if outstanding(self.posts.count, self.seen) < self.place.max_post as u64 {
                     self.phase = Phase::Storing(0);
                     Step::More
                 } else {
                     self.phase = Phase::Idle;
                     Step::Done(Posted::Full {
-                        head: self.count,
+                        head: self.posts.count,
                         tail: self.seen,
                     })
                 }
             }
             Phase::Storing(stored) => {
-                let address = self.place.word_at(self.index, stored);
+                let address = self.place.word_at(self.posts.index, stored);
                 port.store(address, self.entry.words[stored as usize]);
                 if stored + 1 == self.entry.blocks * self.place.stride {
                     self.phase = Phase::Naming;
@@ -164,30 +191,31 @@ impl WqPoster {
                 }
             }
             Phase::Naming => {
-                let address = self.place.id_at(self.index);
+                let address = self.place.id_at(self.posts.index);
                 port.store(address, self.id);
                 if self.place.is_send() {
                     self.phase = Phase::Counting;
                     Step::More
                 } else {
-                    self.count += 1;
-                    self.index += self.entry.blocks as u64;
-                    self.first = self.entry.words[0];
+                    self.posts.count += 1;
+                    self.posts.index += self.entry.blocks as u64;
+                    self.posts.first = self.entry.words[0];
                     self.phase = Phase::Idle;
                     Step::Done(Posted::Wrote)
                 }
             }
             Phase::Counting => {
-                let address = self.place.head_at(self.index);
-                port.store(address, self.count);
-                self.count += 1;
-                self.index += self.entry.blocks as u64;
-                self.first = self.entry.words[0];
+                let address = self.place.head_at(self.posts.index);
+                port.store(address, self.posts.count);
+                self.posts.count += 1;
+                self.posts.index += self.entry.blocks as u64;
+                self.posts.first = self.entry.words[0];
                 self.phase = Phase::Idle;
                 Step::Done(Posted::Wrote)
             }
             Phase::Recording => {
-                port.store(self.place.dbr, self.index & 0xffff);
+                port.store(self.place.dbr, self.posts.index & 0xffff);
+                self.rung = self.posts;
                 if self.place.is_send() {
                     self.phase = Phase::Ringing;
                     Step::More
@@ -200,7 +228,7 @@ impl WqPoster {
                 let Some(register) = self.place.reg else {
                     unreachable!()
                 };
-                port.store(register, self.first);
+                port.store(register, self.posts.first);
                 self.phase = Phase::Idle;
                 Step::Done(Posted::Rung)
             }

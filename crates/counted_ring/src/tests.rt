@@ -76,6 +76,34 @@ fn post_goes_across_the_end_of_ring_and_counter(rt: HostRuntime) -> Result<(), F
 }
 
 #[test]
+fn dropped_request_is_written_over(rt: HostRuntime) -> Result<(), Fail> {
+    let mut bus = PlainBus::new(rt.alloc(), 8, 9)?;
+    let mut poster = WqPoster::new(RECEIVE, 65535);
+    poster.begin_post(ONE_BLOCK, 30);
+    assert_eq!(rt; poster.turn(&mut bus), Step::More);
+    assert_eq!(rt; poster.turn(&mut bus), Step::More);
+    assert_eq!(rt; poster.turn(&mut bus), Step::More);
+    assert_eq!(rt; poster.turn(&mut bus), Step::Done(Posted::Wrote));
+    assert_eq!(rt; poster.index(), 65536);
+    poster.forget();
+    assert!(rt; poster.is_idle());
+    assert_eq!(rt; poster.index(), 65535);
+    poster.begin_post(ONE_BLOCK, 31);
+    assert_eq!(rt; poster.turn(&mut bus), Step::More);
+    assert_eq!(rt; poster.turn(&mut bus), Step::More);
+    assert_eq!(rt; poster.turn(&mut bus), Step::More);
+    assert_eq!(rt; poster.turn(&mut bus), Step::Done(Posted::Wrote));
+    poster.begin_ring();
+    assert_eq!(rt; poster.turn(&mut bus), Step::Done(Posted::Rung));
+    let trace = bus.trace();
+    assert_eq!(rt; trace.len(), 9);
+    assert_eq!(rt; trace[7].addr, trace[3].addr);
+    assert_eq!(rt; trace[7].op, BusOp::Store(31));
+    assert_eq!(rt; trace[8].op, BusOp::Store(0));
+    Ok(())
+}
+
+#[test]
 fn full_queue_takes_no_request(rt: HostRuntime) -> Result<(), Fail> {
     let mut bus = PlainBus::new(rt.alloc(), WORDS, 1)?;
     bus.set_start(16, 0xffff_ffff_ffff_ffff);

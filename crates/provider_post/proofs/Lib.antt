@@ -1,4 +1,8 @@
 pub mod Calls
 pub mod Entries
-pub mod Places
+pub mod Moves
+pub mod Posts
+pub mod Rings
 pub mod Turns
+pub mod Items
+pub mod Rule

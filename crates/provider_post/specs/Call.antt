@@ -1,5 +1,5 @@
 -- How a call to post goes on.
-use Rattle.std.specs.Prelude.{ℕ, ◌+◌, ◌==◌, ◌&&◌, ◌||◌, if◌then◌else◌, Bool, true, false, Option, Some, None, is_some}
+use Rattle.std.specs.Prelude.{ℕ, ◌+◌, ◌==◌, ◌&&◌, ◌||◌, if◌then◌else◌, not, Bool, true, false, Option, Some, None, is_some}
 use Rattle.bus_core.specs.declared.turn.Step.{Step}
 use Rattle.bus_core.specs.declared.turn.Step.TheVariants.{More, Gave, Done}
 use Rattle.counted_ring.specs.declared.poster.Posted.{Posted}
@@ -15,11 +15,19 @@ use Rattle.provider_post.specs.declared.answer.Room.TheVariants as room
 use Rattle.provider_post.specs.declared.answer.PostAnswer.{PostAnswer}
 use Rattle.provider_post.specs.declared.answer.PostAnswer.TheVariants.{All, Refused}
 
--- no more request is to be written: the queue took all, or is full
+-- a call before its first operation
+abbrev pub fresh_call : ℕ → Call
+fresh_call count = record { count = count; accepted = 0; refused = None; recorded = false }
+
+-- no more items are to be written: the queue took all, or is full
 abbrev pub is_written : Call → Bool
 is_written c = (c.accepted == c.count) || is_some c.refused
 
--- what the call's next operation is about: the next request, or the ring
+-- the place in the list of the item that is to be written next, if one is
+abbrev pub next_to : Call → Option ℕ
+next_to c = if is_written c then None else Some c.accepted
+
+-- what the call's next operation is about: the next item, or the ring
 abbrev pub mark_at : Bool → WqMark
 mark_at false = Post
 mark_at true = Ring
@@ -59,27 +67,22 @@ call_after c Wrote = record { count = c.count; accepted = c.accepted + 1; refuse
 call_after c (Full head tail) = record { count = c.count; accepted = c.accepted; refused = Some (room.Full head tail); recorded = c.recorded }
 call_after c Rang = record { count = c.count; accepted = c.accepted; refused = c.refused; recorded = true }
 
--- the block index of the request that comes next
-abbrev pub index_after : ℕ → ℕ → Told → ℕ
-index_after index blocks Nothing = index
-index_after index blocks Wrote = index + blocks
-index_after index blocks (Full head tail) = index
-index_after index blocks Rang = index
+-- The operation between two states of a call was its last one: it stored the register, or the record of a queue that has no register, or it showed the queue full where nothing was written.
+abbrev pub is_last : (has_register : Bool) → Call → Call → Bool
+is_last has_register c next = c.recorded || (next.recorded && not has_register) || (is_some next.refused && (next.accepted == 0))
 
--- the operation between two states of the call is its last one: it stored the register, or showed the queue full where nothing was written
-abbrev pub is_last : Call → Call → Bool
-is_last c next = c.recorded || (is_some next.refused && (next.accepted == 0))
+abbrev pub left_after : (has_register : Bool) → Call → Call → Option Call
+left_after has_register c next = if is_last has_register c next then None else Some next
 
 abbrev pub answer_by : ℕ → Option Room → PostAnswer
 answer_by accepted None = All accepted
 answer_by accepted (Some why) = Refused accepted why
 
--- all requests were taken, or the first one that was not is named
+-- all items were taken, or the first one that was not is named
 abbrev pub answer_of : Call → PostAnswer
 answer_of c = answer_by c.accepted c.refused
 
-abbrev pub answer_after : Call → Call → Step (Unit {0}) PostAnswer
-answer_after c next = if is_last c next then Done (answer_of next) else More
-
-abbrev pub left_after : Call → Call → Option Call
-left_after c next = if is_last c next then None else Some next
+-- the call is done exactly where none is left
+abbrev pub answer_with : Option Call → Call → Step (Unit {0}) PostAnswer
+answer_with None next = Done (answer_of next)
+answer_with (Some c) next = More

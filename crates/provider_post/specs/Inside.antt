@@ -1,16 +1,24 @@
 -- How the fields of a side are seen.
-use Rattle.std.specs.Prelude.{ℕ, ◌≡◌, ◌+◌, ◌*◌, ◌^◌, ◌<◌, ◌≤◌, Bool, true, false, Option, Some, None}
+use Rattle.std.specs.Prelude.{ℕ, ◌≡◌, ◌+◌, ◌*◌, ◌^◌, ◌<◌, ◌≤◌, true, false, Option, Some, None}
+use Rattle.verbs_model.specs.declared.completion.Queue.{Queue}
+use Rattle.verbs_model.specs.declared.completion.Queue.TheVariants.{Send, Recv}
 use Rattle.counted_ring.specs.Place.{is_send}
-use Rattle.counted_ring.specs.Poster.{Stage, Ready, Ringing}
-use Rattle.counted_ring.specs.PosterView.{PosterView}
+use Rattle.counted_ring.specs.Poster.{Poster, Stage, Ready, Ringing, at_stage}
+use Rattle.counted_ring.specs.PosterView.{PosterView, PosterTask, Posting, Doorbell}
 use Rattle.provider_post.specs.declared.call.Call.{Call}
-use Rattle.provider_post.specs.declared.post.PostSide.TheInside.{Inside}
+use Rattle.provider_post.specs.declared.queue_side.QueueSide.TheInside.{Inside}
 use Rattle.provider_post.specs.Call.{is_written}
-use Rattle.provider_post.specs.Side.{PostView}
-use Rattle.provider_post.specs.Begun.{TaskFits, Spans}
+use Rattle.provider_post.specs.Side.{PostView, IsAtRest}
+use Rattle.provider_post.specs.Queued.{IsQueuePlace}
 
-abbrev pub post_view : Inside → PostView
-post_view a = record { poster = a.poster; number = a.number; call = a.call; dropped = a.dropped; noted = a.noted }
+abbrev pub side_view : Inside → PostView
+side_view a = record { poster = a.poster; queue = a.queue; call = a.call; noted = a.noted }
+
+-- what is under way is what the call is at: an item, or the ring
+abbrev pub TaskFits : Call → Option PosterTask → Type 0
+TaskFits c None = Unit {0}
+TaskFits c (Some (Posting words id)) = is_written c ≡ false
+TaskFits c (Some Doorbell) = is_written c ≡ true
 
 -- what the poster has done of the ring
 pub record StageFits (c : Call) (stage : Stage) : Type 0 where
@@ -18,31 +26,47 @@ pub record StageFits (c : Call) (stage : Stage) : Type 0 where
   pub record_next : is_written c ≡ true → c.recorded ≡ false → stage ≡ Ready
   pub register_next : c.recorded ≡ true → stage ≡ Ringing
 
+-- what was posted since the last ring
+pub record RungFits (c : Call) (side rung : Poster) : Type 0 where
+  pub ready : rung.stage ≡ Ready
+  pub count : c.recorded ≡ false → rung.count + c.accepted ≡ side.count
+  pub index : rung.index ≤ side.index
+  pub none : c.accepted ≡ 0 → at_stage side Ready ≡ rung
+  pub all : c.recorded ≡ true → at_stage side Ready ≡ rung
+
 -- counts and indices below 2 ^ 61 at the call's beginning stay low
-pub record IsAtCall (poster : PosterView) (blocks : ℕ) (c : Call) : Type 0 where
+pub record IsAtCall (poster : PosterView) (c : Call) : Type 0 where
   pub few : c.count ≤ 16
   pub some : c.accepted ≤ c.count
   pub rings_some : is_written c ≡ true → 0 < c.accepted
   pub count_low : poster.side.count < 2 ^ 61 + c.accepted
   pub index_low : poster.side.index < 2 ^ 61 + 4 * c.accepted
   pub fits : TaskFits c poster.task
-  pub spans : Spans poster.place blocks poster.task
   pub stage : StageFits c poster.side.stage
+  pub rung : RungFits c poster.side poster.rung
 
-pub record IsAtRest (poster : PosterView) : Type 0 where
-  pub task : poster.task ≡ None
-  pub stage : poster.side.stage ≡ Ready
+abbrev pub IsAtWork : PosterView → Option Call → Type 0
+IsAtWork poster None = IsAtRest poster
+IsAtWork poster (Some c) = IsAtCall poster c
 
-abbrev pub IsAtWork : PosterView → ℕ → Bool → Option Call → Type 0
-IsAtWork poster blocks dropped None = dropped ≡ false → IsAtRest poster
-IsAtWork poster blocks dropped (Some c) = IsAtCall poster blocks c
+pub record IsSide (poster : PosterView) (queue : Queue) (call : Option Call) : Type 0 where
+  pub place : IsQueuePlace poster.place queue
+  pub work : IsAtWork poster call
 
-pub record IsSide (poster : PosterView) (number index blocks : ℕ) (dropped : Bool) (call : Option Call) : Type 0 where
-  pub send : is_send poster.place ≡ true
-  pub stride : poster.place.stride ≡ 8
+abbrev pub IsQueueSide : Inside → Type 0
+IsQueueSide a = IsSide a.poster a.queue a.call
+
+-- a side of the send queue of this queue pair
+pub record IsSends (side : PostView) (number : ℕ) : Type 0 where
+  pub queue : side.queue ≡ Send number
   pub number_low : number < 2 ^ 24
-  pub index_is : index ≡ poster.side.index
-  pub work : IsAtWork poster blocks dropped call
+  pub register : is_send side.poster.place ≡ true
+  pub stride : side.poster.place.stride ≡ 8
 
-abbrev pub IsPostSide : Inside → Type 0
-IsPostSide a = IsSide a.poster a.number a.index a.blocks a.dropped a.call
+-- a side of a receive queue with blocks of so many words
+pub record IsReceives (side : PostView) (stride : ℕ) : Type 0 where
+  pub number : ℕ
+  pub queue : side.queue ≡ Recv number
+  pub register : is_send side.poster.place ≡ false
+  pub stride_is : side.poster.place.stride ≡ stride
+  pub few : stride ≤ 16

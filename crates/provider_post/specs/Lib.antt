@@ -1,6 +1,7 @@
-pub mod Place
 pub mod Call
+pub mod Item
 pub mod Note
+pub mod Rule
 pub mod Side
-pub mod Begun
+pub mod Queued
 pub mod Inside

@@ -3,22 +3,22 @@ use Rattle.std.specs.Prelude.{ℕ, Option, Some, None}
 use Rattle.bus_core.specs.declared.turn.Note.{Note}
 use Rattle.actor_map.specs.Notes.{queue_number}
 use Rattle.actor_map.specs.declared.note.TheConstants.{POST, POST_FULL}
-use Rattle.verbs_model.specs.declared.completion.Queue.TheVariants.{Send}
+use Rattle.verbs_model.specs.declared.completion.Queue.{Queue}
 use Rattle.provider_post.specs.declared.call.Call.{Call}
 use Rattle.provider_post.specs.declared.told.Told.{Told}
 use Rattle.provider_post.specs.declared.told.Told.TheVariants.{Nothing, Wrote, Full, Rang}
 
--- a post of the requests that were written, which saw this tail
-abbrev pub post_note : ℕ → Call → ℕ → Note
-post_note number c seen = record { kind = POST; object = queue_number (Send number); a = c.accepted; b = seen; c = 0; d = 0 }
+-- a post of the items that were written, which saw this tail
+abbrev pub post_note : Queue → Call → ℕ → Note
+post_note queue c seen = record { kind = POST; object = queue_number queue; a = c.accepted; b = seen; c = 0; d = 0 }
 
--- a queue that is full of `head` requests less `tail`
-abbrev pub full_note : ℕ → Call → ℕ → ℕ → Note
-full_note number c head tail = record { kind = POST_FULL; object = queue_number (Send number); a = c.accepted; b = head; c = tail; d = 0 }
+-- a queue that is full of `head` items less the tail that was seen
+abbrev pub full_note : Queue → Call → ℕ → ℕ → Note
+full_note queue c head seen = record { kind = POST_FULL; object = queue_number queue; a = c.accepted; b = head; c = seen; d = 0 }
 
 -- the store of the record and the load of a tail that shows the queue full have notes
-abbrev pub note_of : ℕ → Call → Told → ℕ → Option Note
-note_of number c Nothing seen = None
-note_of number c Wrote seen = None
-note_of number c (Full head tail) seen = Some (full_note number c head tail)
-note_of number c Rang seen = Some (post_note number c seen)
+abbrev pub note_of : Queue → Call → Told → ℕ → Option Note
+note_of queue c Nothing seen = None
+note_of queue c Wrote seen = None
+note_of queue c (Full head tail) seen = Some (full_note queue c head seen)
+note_of queue c Rang seen = Some (post_note queue c seen)

@@ -10,7 +10,7 @@ use counted_ring::Posted;
 /// How far a call to post has come.
 #[derive(Clone, Copy, Debug, PartialEq, Eq)]
 pub struct Call {
-    /// How many requests it has.
+    /// How many items it has.
     pub count: u32,
     /// How many of them the queue took.
     pub accepted: u32,
@@ -21,11 +21,22 @@ pub struct Call {
 }
 
 impl Call {
-    /// Whether no more request is to be written.
+    /// Whether no more item is to be written.
     pub(crate) fn is_written(&self) -> bool
         ensures { result ≡ words.is_written self.now }
     {
         self.accepted == self.count || self.refused.is_some()
+    }
+
+    /// The place in the list of the item that is to be written next, if one is.
+    pub(crate) fn next_item(&self) -> Option<u32>
+        ensures { result ≡ words.next_to self.now }
+    {
+        if self.is_written() {
+            None
+        } else {
+            Some(self.accepted)
+        }
     }
 
     /// What an operation tells that the poster answered so.
@@ -76,32 +87,23 @@ impl Call {
     }
 
     /// Whether the operation between this and the next state of the call was its last: the register was
-    /// stored, or there is nothing to ring for.
-    fn is_last(&self, next: &Call) -> bool
-        ensures { result ≡ words.is_last self.now next.now }
+    /// stored, or the record of a queue that has no register, or there is nothing to ring for.
+    fn is_last(&self, next: &Call, has_register: bool) -> bool
+        ensures { result ≡ words.is_last has_register self.now next.now }
     {
-        self.recorded || (next.refused.is_some() && next.accepted == 0)
+        self.recorded
+            || (next.recorded && !has_register)
+            || (next.refused.is_some() && next.accepted == 0)
     }
 
     /// The call after an operation between this and its next state, if it goes on.
-    pub(crate) fn left(&self, next: Call) -> Option<Call>
-        ensures { result ≡ words.left_after self.now next }
+    pub(crate) fn left(&self, next: Call, has_register: bool) -> Option<Call>
+        ensures { result ≡ words.left_after has_register self.now next }
     {
-        if self.is_last(&next) {
+        if self.is_last(&next, has_register) {
             None
         } else {
             Some(next)
-        }
-    }
-
-    /// What a side answers to that operation.
-    pub(crate) fn step(&self, next: &Call) -> Step<(), PostAnswer>
-        ensures { result ≡ words.answer_after self.now next.now }
-    {
-        if self.is_last(next) {
-            Step::Done(next.answer())
-        } else {
-            Step::More
         }
     }
 
@@ -118,5 +120,15 @@ impl Call {
                 why,
             },
         }
+    }
+}
+
+/// What a side answers to an operation that left so much of a call, which is now at `next`.
+pub(crate) fn answer_with(left: Option<Call>, next: &Call) -> Step<(), PostAnswer>
+    ensures { result ≡ words.answer_with left next.now }
+{
+    match left {
+        None => Step::Done(next.answer()),
+        Some(_) => Step::More,
     }
 }

@@ -1,34 +1,49 @@
 //! The notes of a post.
 ghost use Rattle.std.specs.Prelude.{◌≡◌, ◌<◌, ◌^◌};
+ghost use Rattle.actor_map.specs.Notes as entries;
 ghost use Rattle.provider_post.specs.Note as words;
+ghost use Rattle.provider_post.specs.Queued.{number_of};
 
 use crate::call::Call;
 use crate::told::Told;
 use actor_map::{POST, POST_FULL};
 use bus_core::Note;
+use verbs_model::Queue;
 
 /// The note of an operation that told this, where the tail that was loaded last is `seen`.
-pub(crate) fn note_of(number: u32, call: &Call, told: Told, seen: u64) -> Option<Note>
-    requires { number < 2 ^ 24 }
-    ensures { result ≡ words.note_of number call.now told seen }
+pub(crate) fn note_of(queue: Queue, call: &Call, told: Told, seen: u64) -> Option<Note>
+    requires { number_of queue < 2 ^ 24 }
+    ensures { result ≡ words.note_of queue call.now told seen }
 {
     match told {
         Told::Nothing | Told::Wrote => None,
-        Told::Full { head, tail } => Some(Note {
+        Told::Full { head, .. } => Some(Note {
             kind: POST_FULL,
-            object: 4 * number,
+            object: queue_number(queue),
             a: call.accepted as u64,
             b: head,
-            c: tail,
+            c: seen,
             d: 0,
         }),
         Told::Rang => Some(Note {
             kind: POST,
-            object: 4 * number,
+            object: queue_number(queue),
             a: call.accepted as u64,
             b: seen,
             c: 0,
             d: 0,
         }),
+    }
+}
+
+/// The number of a queue in a note.
+fn queue_number(queue: Queue) -> u32
+    requires { number_of queue < 2 ^ 24 }
+    ensures { result ≡ entries.queue_number queue }
+{
+    match queue {
+        Queue::Send(qp) => 4 * qp,
+        Queue::Recv(qp) => 4 * qp + 1,
+        Queue::Shared(srq) => 4 * srq + 2,
     }
 }

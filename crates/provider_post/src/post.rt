@@ -1,27 +1,28 @@
 //! Posts to a send queue.
-ghost use Rattle.std.specs.Prelude.{◌≡◌, ◌<◌, ◌≤◌, ◌^◌, ◌↔◌, IsTrue, IsSome, Some, None, false, length};
+ghost use Rattle.std.specs.Prelude.{◌≡◌, ◌<◌, ◌≤◌, ◌+◌, ◌^◌, ◌↔◌, IsTrue, IsSome, Some, None, length, map};
 ghost use Rattle.bus_core.specs.Port.{Appends};
 ghost use Rattle.bus_core.specs.declared.operation.BusEntry.{BusEntry};
 ghost use Rattle.counted_ring.specs.Turn.{CanServe};
-ghost use Rattle.counted_ring.specs.PosterView.{PosterTask};
 ghost use Rattle.verbs_model.specs.Lines.{is_among};
+ghost use Rattle.verbs_model.specs.declared.completion.Queue.TheVariants.{Send};
 ghost use Rattle.verbs_model.specs.declared.declaration.TheConstants.{FIRST_QP};
+ghost use Rattle.verbs_model.specs.declared.request.Item.TheVariants.{Request as TheRequest};
 ghost use Rattle.actor_map.specs.Map.{map_of};
 ghost use Rattle.actor_map.specs.Sizes.{words_of};
-ghost use Rattle.provider_post.specs.Side.{PostTurn, IsListOf, IsFresh, fresh_call, forgotten};
-ghost use Rattle.provider_post.specs.Begun.{CanBegin, IsBegun};
-ghost use Rattle.provider_post.specs.Call as words;
+ghost use Rattle.object_places.specs.Places.{send_of, qp_line, IsWithin};
+ghost use Rattle.provider_post.specs.Call.{fresh_call};
+ghost use Rattle.provider_post.specs.Side.{PostTurn, IsListOf, MayDrop, call_of, forgotten, fresh_view, with_call};
+ghost use Rattle.provider_post.specs.Queued.{IsBegun};
+ghost use Rattle.provider_post.specs.Inside.{IsSends};
 
 use crate::answer::PostAnswer;
-use crate::call::Call;
-use crate::note::note_of;
-use crate::place::send_place;
-use crate::told::Told;
+use crate::queue_side::QueueSide;
+use crate::start::start_of;
 use actor_map::AddressMap;
 use bus_core::{BusPort, Note, Step};
-use counted_ring::WqPoster;
+use object_places::send_place;
 use std::marker::Model;
-use verbs_model::{Declared, FIRST_QP, Request};
+use verbs_model::{Declared, Queue, Request};
 use work_entries::encode_send;
 
 /// Posts the requests of a call to the send queue of a queue pair, one bus operation a turn. For each
@@ -30,16 +31,9 @@ use work_entries::encode_send;
 /// the record and then the register, if it took any. So does the rdma-core mlx5 provider.
 #[derive(Drop)]
 pub struct PostSide {
-    poster: WqPoster,
+    side: QueueSide,
     /// The number of the queue pair.
     number: u32,
-    /// The block index of the request that comes next.
-    index: u64,
-    /// How many blocks the entry takes that is being written.
-    blocks: u32,
-    call: Option<Call>,
-    dropped: bool,
-    noted: Option<Note>,
 }
 
 impl Model for PostSide {
@@ -47,11 +41,11 @@ impl Model for PostSide {
 
     ghost Value = { PostView };
 
-    ghost use Rattle.provider_post.specs.Inside.{post_view, IsPostSide};
+    ghost use Rattle.provider_post.specs.Inside.{IsSends};
 
-    ghost view = { post_view };
+    ghost view = { λ a. a.side };
 
-    ghost invariant = { IsPostSide };
+    ghost invariant = { λ a. IsSends a.side a.number };
 }
 
 impl PostSide {
@@ -61,44 +55,34 @@ impl PostSide {
         requires object { IsTrue (is_among FIRST_QP (length d.now.qps) object) }
         requires map { map.now ≡ map_of d.now }
         requires fits { words_of d.now ≤ 2 ^ 20 }
-        ensures { IsFresh d.now object result }
+        ensures fresh { result ≡ fresh_view (send_of d.now object) (Send object) (qp_line d.now object).start }
+        ensures low { result.poster.side.index ≤ 2 ^ 32 }
+        ensures within { IsWithin (words_of d.now) (send_of d.now object) }
     {
         let place = send_place(d, map, object);
-        let line = &d.lines().qps.as_slice()[(object - FIRST_QP) as usize];
         PostSide {
-            poster: WqPoster::new(place, line.start),
+            side: QueueSide::new(place, Queue::Send(object), start_of(d, object)),
             number: object,
-            index: line.start,
-            blocks: 1,
-            call: None,
-            dropped: false,
-            noted: None,
         }
     }
 
     /// Starts a call of so many requests, 1 to 16.
     pub fn begin(&mut self, count: u32)
         requires idle { self.old.call ≡ None }
-        requires kept { self.old.dropped ≡ false }
         requires some { 0 < count }
         requires few { count ≤ 16 }
         requires posted { self.old.poster.side.count < 2 ^ 61 }
         requires index { self.old.poster.side.index < 2 ^ 61 }
-        ensures { self.new ≡ record self.old { call = Some (fresh_call count) } }
+        ensures { self.new ≡ with_call self.old (Some (fresh_call count)) }
     {
-        self.call = Some(Call {
-            count,
-            accepted: 0,
-            refused: None,
-            recorded: false,
-        });
+        self.side.begin(count);
     }
 
     /// Whether no call is under way.
     pub fn is_idle(&self) -> bool
         ensures { IsTrue result ↔ (self.now.call ≡ None) }
     {
-        self.call.is_none()
+        self.side.is_idle()
     }
 
     /// The note of the last turn's operation, where it is one that makes a history entry: the store of the
@@ -106,78 +90,50 @@ impl PostSide {
     pub fn note(&self) -> Option<Note>
         ensures { result ≡ self.now.noted }
     {
-        self.noted
+        self.side.note()
     }
 
-    /// Drops the call that is under way. The side is idle, and posts no more: an entry that is half
-    /// written stays so.
-    pub fn forget(&mut self)
-        ensures { self.new ≡ forgotten self.old }
+    /// Whether the call that is under way may be dropped: no operation of it made a history entry.
+    pub fn may_forget(&self) -> bool
+        ensures { IsTrue result ↔ MayDrop self.now.call }
     {
-        self.call = None;
-        self.dropped = true;
+        self.side.may_forget()
+    }
+
+    /// Drops the call that is under way, with the requests that it wrote: the adapter does not know of
+    /// them, and the next call writes over them.
+    pub fn forget(&mut self)
+        requires { MayDrop self.old.call }
+        ensures forgotten { self.new ≡ forgotten self.old }
+        ensures dropped { self.new.poster.side.count + (call_of self.old).accepted ≡ self.old.poster.side.count }
+        ensures back { self.new.poster.side.index ≤ self.old.poster.side.index }
+    {
+        self.side.forget();
     }
 
     /// Makes one operation of the call, whose list this is at each of its turns.
     pub fn turn<P: BusPort>(&mut self, port: &mut P, list: &[Request]) -> Step<(), PostAnswer>
         requires busy { IsSome self.old.call }
-        requires list { IsListOf self.old list.now }
+        requires list { IsListOf self.old (map TheRequest list.now) }
         requires port { CanServe self.old.poster.place (P.port port.old) }
-        ensures { (e : BusEntry) × Appends (P.port port.old) (P.port port.new) e × PostTurn self.old self.new list.now e result }
+        ensures { (e : BusEntry) × Appends (P.port port.old) (P.port port.new) e × PostTurn self.old self.new (map TheRequest list.now) e result }
     {
-        let Some(call) = self.call else {
-            unreachable!()
-        };
-        self.blocks = begin_next(
-            &mut self.poster,
-            &call,
-            self.blocks,
-            self.index,
-            self.number,
-            list,
-        );
-        let told = call.told(self.poster.turn(port));
-        let next = call.after(told);
-        self.index = index_after(self.index, self.blocks, told);
-        self.noted = note_of(self.number, &call, told, self.poster.seen().a);
-        self.call = call.left(next);
-        call.step(&next)
+        begin_next(&mut self.side, self.number, list);
+        self.side.turn(port)
     }
 }
 
-/// Where the poster is idle, begins the post of the request that comes next, or the ring. Gives how many
-/// blocks the entry takes that is being written.
-fn begin_next(
-    poster: &mut WqPoster,
-    call: &Call,
-    blocks: u32,
-    index: u64,
-    number: u32,
-    list: &[Request],
-) -> u32
-    requires { CanBegin poster.old call.now blocks index number list.now }
-    ensures { (task : PosterTask) × IsBegun poster.old poster.new call.now result index number list.now task }
+/// Begins the entry of the request that comes next, where one is to be begun.
+fn begin_next(side: &mut QueueSide, number: u32, list: &[Request])
+    requires side { IsSends side.old number }
+    requires busy { IsSome side.old.call }
+    requires list { IsListOf side.old (map TheRequest list.now) }
+    ensures { IsBegun side.old side.new (map TheRequest list.now) }
 {
-    if !poster.is_idle() {
-        return blocks;
-    }
-    if call.is_written() {
-        poster.begin_ring();
-        return blocks;
-    }
-    let request = &list[call.accepted as usize];
-    let entry = encode_send(request, (index & 0xffff) as u16, number);
-    poster.begin_post(entry, request.id);
-    entry.blocks
-}
-
-/// The block index of the request that comes next.
-fn index_after(index: u64, blocks: u32, told: Told) -> u64
-    requires { index < 2 ^ 63 }
-    ensures { result ≡ words.index_after index blocks told }
-{
-    match told {
-        Told::Wrote => index + blocks as u64,
-        Told::Nothing | Told::Full { .. } | Told::Rang => index,
-    }
+    let Some(place) = side.next_item() else {
+        return;
+    };
+    let request = &list[place as usize];
+    let entry = encode_send(request, (side.index() & 0xffff) as u16, number);
+    side.begin_item(entry, request.id);
 }

@@ -1,0 +1,30 @@
+//! Laws of the queues' words that hold with no code.
+ghost use Rattle.object_places.specs.Apart.{AreApart, AreAtStart, ArePlaced};
+
+use actor_map::laws as map;
+
+/// The queue of each declared object lies as its crate asks for, on words of objects, so not on the word of actors
+/// that ended.
+pub fn places()
+    ensures { ArePlaced }
+{
+    map::whole();
+    map::inside();
+}
+
+/// Two queues have no word in common, the two of one queue pair included.
+pub fn apart()
+    ensures { AreApart }
+{
+    map::whole();
+    map::inside();
+    map::apart();
+}
+
+/// With the words that a run begins with each queue is as before its first operation.
+pub fn starts()
+    ensures { AreAtStart }
+{
+    map::starts();
+    map::named();
+}

@@ -1,1 +1,0 @@
-//! Posts on a plain bus.
