@@ -1,0 +1,14 @@
+pub mod Completion
+pub mod Note
+pub mod NotesFit
+pub mod SendQueue
+pub mod SendInside
+pub mod Stores
+pub mod Turned
+pub mod Turns
+pub mod Poll
+pub mod PollInside
+pub mod Rule
+pub mod RuleTurned
+pub mod FollowsRule
+pub mod Fresh

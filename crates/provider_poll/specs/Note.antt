@@ -1,0 +1,18 @@
+-- The notes of a poll, as those of its entries are.
+use Rattle.std.specs.Prelude.{ℕ}
+use Rattle.bus_core.specs.declared.turn.Note.{Note}
+use Rattle.verbs_model.specs.declared.completion.Queue.TheVariants.{Send}
+use Rattle.verbs_model.specs.declared.entry.What.TheVariants.{Retire, Ack}
+use Rattle.actor_map.specs.Notes.{note_of}
+use Rattle.actor_map.specs.declared.note.TheConstants.{POLL}
+
+-- of a poll that asked for so many completions and took these, and saw the queue as published up to this index
+abbrev pub poll_note : (cq most taken seen : ℕ) → Note
+poll_note cq most taken seen = record { kind = POLL; object = cq; a = most; b = taken; c = seen; d = 0 }
+
+-- of the store of this tail in the send queue of the queue pair
+abbrev pub retire_note : (qp tail : ℕ) → Note
+retire_note qp tail = note_of (Retire (Send qp) tail) 0
+
+abbrev pub ack_note : (cq index : ℕ) → Note
+ack_note cq index = note_of (Ack cq index) 0
