@@ -1,0 +1,13 @@
+pub mod Entries
+pub mod Taking
+pub mod Numbers
+pub mod Kept
+pub mod Visits
+pub mod Looking
+pub mod Reading
+pub mod Publications
+pub mod Beginning
+pub mod Starting
+pub mod Steps
+pub mod Whole
+pub mod Growing

@@ -1,0 +1,29 @@
+use Rattle.std.proofs.Common.{◌+◌}
+use Rattle.verbs_model.specs.declared.declaration.TheConstants.{FIRST_QP}
+use Rattle.device_engine.specs.declared.scan.Work.TheVariants as works
+use Rattle.device_engine.specs.View.{scan_of}
+use Rattle.device_engine.proofs.Looking.{can_look, look_operates}
+use Rattle.device_engine.proofs.Visits.{scan_at, found_at, serves}
+use Rattle.device_engine.proofs.scan.Scan.look.Goals as goal
+
+pub look-requires-clause-look : goal.look-requires-clause-look
+look-requires-clause-look g c =
+    let v = scan_of c.args.self.now in
+    let p = c.index_mut-pair.result.now in
+    let found = found_at v works.Looking p c.requires.standing c.requires.work (λ there. there) c.index_mut-pair.ensures.value in
+    can_look v p found (scan_at v works.Looking c.requires.standing c.requires.work) c.requires.low
+
+pub look-requires-clause-port : goal.look-requires-clause-port
+look-requires-clause-port g c =
+    let v = scan_of c.args.self.now in
+    let p = c.index_mut-pair.result.now in
+    let found = found_at v works.Looking p c.requires.standing c.requires.work (λ there. there) c.index_mut-pair.ensures.value in
+    serves v.declared (FIRST_QP + v.visit) p (g.P.BusPort.port c.args.port.now) (c.requires.standing.scan.pairs v.visit p found) c.requires.port
+
+pub returns : goal.returns
+returns g c =
+    let v = scan_of c.args.self.now in
+    let p = c.index_mut-pair.result.now in
+    let made = c.look.ensures in
+    let found = found_at v works.Looking p c.requires.standing c.requires.work (λ there. there) c.index_mut-pair.ensures.value in
+    (made.0, made.1, look_operates v p made.0 found (scan_at v works.Looking c.requires.standing c.requires.work) c.look.new.self c.look.result made.2 c.requires.work)

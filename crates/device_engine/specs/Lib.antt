@@ -1,0 +1,17 @@
+pub mod Entry
+pub mod State
+pub mod Event
+pub mod Rows
+pub mod Rule
+pub mod Seen
+pub mod Told
+pub mod Pair
+pub mod Laws
+pub mod View
+pub mod Counts
+pub mod Goes
+pub mod Publishing
+pub mod Scan
+pub mod Turn
+pub mod First
+pub mod Visit

@@ -1,0 +1,49 @@
+//! Publishing a completion.
+ghost use Rattle.std.specs.Prelude.{◌≡◌, IsSome};
+ghost use Rattle.bus_core.specs.Port.{Appends};
+ghost use Rattle.bus_core.specs.declared.operation.BusEntry.{BusEntry};
+ghost use Rattle.owner_ring.specs.Turn.{CanServe};
+ghost use Rattle.cq_pair.specs.Place.{ring_of};
+ghost use Rattle.device_engine.specs.Goes.{publish_note as note_of};
+ghost use Rattle.device_engine.specs.Publishing.{Publishes};
+
+use crate::told::{Comes, Told};
+use actor_map::PUBLISH;
+use bus_core::{BusPort, Note, Step};
+use cq_pair::{CqDevice, CqSeen};
+
+/// Makes one operation of the publication that is under way in the completion queue of this number.
+pub(crate) fn publish<P: BusPort>(queue: &mut CqDevice, cq: u32, port: &mut P) -> Told
+    requires busy { IsSome queue.old.task }
+    requires port { CanServe (ring_of queue.old.place) (P.port port.old) }
+    ensures { (e : BusEntry) × Appends (P.port port.old) (P.port port.new) e × Publishes cq queue.old queue.new e result }
+{
+    match queue.turn(port) {
+        Step::Done(CqSeen::Published { .. }) => Told {
+            comes: Comes::Next,
+            note: Some(publish_note(cq, queue.seen().a)),
+        },
+        Step::Done(CqSeen::Overrun { .. } | CqSeen::Lost) => Told {
+            comes: Comes::Next,
+            note: None,
+        },
+        Step::More | Step::Gave(()) => Told {
+            comes: Comes::Same,
+            note: None,
+        },
+    }
+}
+
+/// The note of a publication that saw this acknowledged index.
+fn publish_note(cq: u32, seen: u64) -> Note
+    ensures { result ≡ note_of cq seen }
+{
+    Note {
+        kind: PUBLISH,
+        object: cq,
+        a: seen,
+        b: 0,
+        c: 0,
+        d: 0,
+    }
+}
