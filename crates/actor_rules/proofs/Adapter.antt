@@ -1,0 +1,43 @@
+-- What ties the adapter to the abstract state.
+use Rattle.std.proofs.Common.{◌≡◌, ℕ, ◌<◌, true, List, [], ◌∷◌, IsTrue}
+use Rattle.verbs_model.specs.declared.completion.Queue.TheVariants.{Send}
+use Rattle.verbs_model.specs.declared.declaration.Lines.{Lines}
+use Rattle.verbs_model.specs.declared.state.Act.TheVariants.{Complete}
+use Rattle.verbs_model.specs.declared.state.Unpolled.{Unpolled}
+use Rattle.verbs_model.specs.State.{Verbs}
+use Rattle.cqe_format.specs.declared.completion.Cqe.{Cqe}
+use Rattle.object_places.specs.Objects.{Lives, Sends}
+use Rattle.device_engine.specs.State.{AdapterRule, AdapterAt, Looking, Recording, Reading, Publishing, Ending, send_cq, may_send}
+use Rattle.actor_rules.proofs.Objects.{Lists}
+use Rattle.actor_rules.proofs.Completions.{IsCompletion}
+
+-- it publishes what it owes
+pub record Owes (d : Lines) (l : Lists) (v : Verbs) (s : AdapterRule) (cq : ℕ) (c : Cqe) : Type 0 where
+  pub lives : Lives d (Sends s.visit)
+  pub queue : cq ≡ send_cq d s.visit
+  pub unpolled : Unpolled
+  pub owed : v.owed ≡ Complete cq unpolled ∷ []
+  pub spells : IsCompletion l c unpolled
+  pub pair : unpolled.completion.qp ≡ s.visit
+  pub number : unpolled.number ≡ s.taken s.visit
+
+pub record Visits (d : Lines) (v : Verbs) (qp : ℕ) : Type 0 where
+  pub lives : Lives d (Sends qp)
+  pub idle : v.owed ≡ []
+
+-- a pair that may send has an entry that the record showed
+pub record Reads (d : Lines) (v : Verbs) (s : AdapterRule) : Type 0 where
+  pub visits : Visits d v s.visit
+  pub sends : may_send d s.visit ≡ true
+  pub ready : 0 < (s.readers s.visit).ready
+
+abbrev pub AdapterStandsAt : Lines → Lists → Verbs → AdapterRule → AdapterAt → Type 0
+AdapterStandsAt d l v s Looking = Visits d v s.visit
+AdapterStandsAt d l v s Recording = Visits d v s.visit
+AdapterStandsAt d l v s Reading = Reads d v s
+AdapterStandsAt d l v s (Publishing cq c) = Owes d l v s cq c
+AdapterStandsAt d l v s Ending = v.owed ≡ []
+
+pub record AdapterStands (d : Lines) (l : Lists) (v : Verbs) (s : AdapterRule) : Type 0 where
+  pub taken : (qp : ℕ) → Lives d (Sends qp) → s.taken qp ≡ (v.queues (Send qp)).taken
+  pub work : AdapterStandsAt d l v s s.at_work

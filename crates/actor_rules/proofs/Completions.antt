@@ -1,0 +1,115 @@
+-- What ties a completion queue of words, and the poll that is under way, to the abstract state.
+use Rattle.std.proofs.Common.{◌≡◌, ℕ, ◌+◌, ◌-◌, ◌<◌, ◌≤◌, ◌==◌, Bool, true, false, List, [], ◌∷◌, length, map, take, slice_get, filter, position, Option, None, Some, if◌then◌else◌}
+use Rattle.std.specs.List.{AllByRecursion}
+use Rattle.verbs_model.specs.declared.completion.Completion.{Completion}
+use Rattle.verbs_model.specs.declared.completion.Queue.TheVariants.{Send}
+use Rattle.verbs_model.specs.declared.declaration.Lines.{Lines}
+use Rattle.verbs_model.specs.declared.state.Unpolled.{Unpolled}
+use Rattle.verbs_model.specs.Rows.{nop_completion}
+use Rattle.verbs_model.specs.State.{Verbs, CompletionQueue}
+use Rattle.cqe_format.specs.declared.completion.Cqe.{Cqe}
+use Rattle.owner_ring.specs.Place.{size}
+use Rattle.owner_ring.specs.Consumer.{Consumer, Waiting, Reading, next_index}
+use Rattle.cq_pair.specs.Place.{ring_of}
+use Rattle.cq_pair.specs.Queue.{PlainQueue, produced, since}
+use Rattle.counted_ring.specs.Queue.{index_of}
+use Rattle.counted_ring.specs.Retirer.{Asked, Retirer}
+use Rattle.counted_ring.proofs.Requests.{request_of}
+use Rattle.object_places.specs.Objects.{Lives, Sends}
+use Rattle.object_places.specs.Places.{completions_of}
+use Rattle.provider_poll.specs.declared.state.End.{End}
+use Rattle.provider_poll.specs.declared.state.PollState.{PollState}
+use Rattle.provider_poll.specs.declared.state.PollState.TheVariants as states
+use Rattle.provider_poll.specs.Rule.{PollRule}
+use Rattle.device_engine.specs.Entry.{nop_cqe}
+use Rattle.device_engine.specs.State.{send_cq}
+use Rattle.actor_rules.specs.Thread.{completing}
+use Rattle.actor_rules.specs.Polling.{place_in}
+use Rattle.actor_rules.proofs.Matching.{Match}
+use Rattle.actor_rules.proofs.Objects.{Lists, retirer_in}
+
+-- A completion of words is this one: of a request that was taken, at its block, with its id.
+pub record IsCompletion (l : Lists) (c : Cqe) (u : Unpolled) : Type 0 where
+  pub some : 0 < u.number
+  pub taken : u.number ≤ (l.queues (Send u.completion.qp)).taken
+  pub words : c ≡ nop_cqe u.completion.qp (index_of (l.queues (Send u.completion.qp)) (u.number - 1))
+  pub told : u.completion ≡ nop_completion u.completion.qp (request_of (l.queues (Send u.completion.qp)) (u.number - 1)).id 0
+
+-- how many completions the poll under way holds, of which no entry tells yet
+abbrev pub held : PollState → ℕ
+held (states.Polling most ends) = length ends.items
+held (states.LookingUp most ends c queue) = length ends.items + 1
+held _ = 0
+
+-- the ends that the poll under way has still to store, of which its entry has told
+abbrev pub pending : PollState → List End
+pending (states.Retiring taken empty left) = left.items
+pending _ = []
+
+-- those of the queue at this place
+abbrev pub ends_on : ℕ → List End → List ℕ
+ends_on place [] = []
+ends_on place (e ∷ es) = if e.queue == place then e.end ∷ ends_on place es else ends_on place es
+
+-- an end that was found for a completion: of its queue, and its request's number
+pub record IsEnd (d : Lines) (cq : ℕ) (retirers : List Retirer) (e : End) (u : Unpolled) : Type 0 where
+  pub queue : e.queue ≡ place_in d cq u.completion.qp
+  pub end : e.end ≡ u.number
+  pub found : u.number ≤ (retirer_in retirers e.queue).found
+
+abbrev pub completion_in : Unpolled → Completion
+completion_in u = u.completion
+
+-- the first of the unpolled completions were given, and their ends found
+pub record IsGiven (d : Lines) (cq : ℕ) (retirers : List Retirer) (completions : List Completion) (found : List End) (us : List Unpolled) : Type 0 where
+  pub ends : Match (IsEnd d cq retirers) found (take (length found) us)
+  pub given : completions ≡ map completion_in (take (length found) us)
+
+-- the next one is looked up
+pub record IsLookedUp (d : Lines) (cq : ℕ) (l : Lists) (c : Cqe) (queue : ℕ) (next : Option Unpolled) : Type 0 where
+  pub unpolled : Unpolled
+  pub next_is : next ≡ Some unpolled
+  pub spells : IsCompletion l c unpolled
+  pub queue_is : queue ≡ place_in d cq unpolled.completion.qp
+
+-- an end that is to be stored was found, and its queue is that of a queue pair that completes here
+pub record IsPending (d : Lines) (cq : ℕ) (retirers : List Retirer) (e : End) : Type 0 where
+  pub qp : ℕ
+  pub place : position (λ n. n == qp) (completing d cq) ≡ Some (place_in d cq qp)
+  pub queue : e.queue ≡ place_in d cq qp
+  pub found : e.end ≤ (retirer_in retirers e.queue).found
+
+-- how far the poll under way has come, with what it has given
+abbrev pub PollStands : Lines → ℕ → Lists → PollRule → List Completion → List Unpolled → PollState → Type 0
+PollStands d cq l p given us states.Idle = Unit {0}
+PollStands d cq l p given us (states.Polling most ends) = IsGiven d cq p.retirers given ends.items us × (length ends.items < most) × (most ≤ 16)
+PollStands d cq l p given us (states.LookingUp most ends c queue) = IsGiven d cq p.retirers given ends.items us × (length ends.items < most) × (most ≤ 16) × IsLookedUp d cq l c queue (slice_get us (length ends.items))
+PollStands d cq l p given us (states.Retiring taken empty left) = (0 < length left.items) × (0 < taken) × AllByRecursion (IsPending d cq p.retirers) left.items
+PollStands d cq l p given us (states.Acking taken empty) = 0 < taken
+
+-- a lookup that has loaded an id is that of the completion that is looked up
+abbrev pub AskedFor : PollState → ℕ → Option Asked → Type 0
+AskedFor state place None = Unit {0}
+AskedFor (states.LookingUp most ends c queue) place (Some a) = (queue ≡ place) × (a.counter ≡ c.counter)
+AskedFor _ place (Some a) = ⊥
+
+-- an entry that is read is the one after that which was taken last
+abbrev pub ReadsNext : Consumer → Type 0
+ReadsNext (Waiting acked next) = Unit {0}
+ReadsNext (Reading acked next index last words) = index ≡ next
+
+pub record CompletionsStand (d : Lines) (l : Lists) (p : PollRule) (given : List Completion) (v : Verbs) (cq : ℕ) : Type 0 where
+  pub acked : (v.completions cq).acked ≡ (l.completions cq).acked
+  pub produced : (v.completions cq).produced ≡ produced (l.completions cq)
+  pub size : (v.completions cq).size ≡ size (ring_of (completions_of d cq))
+  pub runs : (l.completions cq).overrun ≡ false
+  -- the index of the oldest completion of which no poll's entry tells
+  pub from : ℕ
+  pub from_is : from + held p.state ≡ next_index p.host
+  pub low : (l.completions cq).acked ≤ from
+  pub unpolled : Match (IsCompletion l) (since (l.completions cq) from) (v.completions cq).unpolled
+  pub reads : ReadsNext p.host
+  pub poll : PollStands d cq l p given (v.completions cq).unpolled p.state
+  pub retirers : length p.retirers ≡ length (completing d cq)
+  pub asked : (place : ℕ) → AskedFor p.state place (retirer_in p.retirers place).asked
+  pub ends : (qp : ℕ) → Lives d (Sends qp) → send_cq d qp ≡ cq → (v.queues (Send qp)).ends ≡ ends_on (place_in d cq qp) (pending p.state)

@@ -1,0 +1,73 @@
+-- What holds between the operations of a run, and what an operation makes of it.
+use Rattle.std.proofs.Common.{◌≡◌, ℕ, zero, suc, List, length, IsTrue, Option, None, Some}
+use Rattle.bus_core.specs.Mark.{Marked}
+use Rattle.bus_core.specs.Trace.{Memory, Tells, after_entry}
+use Rattle.verbs_model.specs.declared.call.Call.{Call}
+use Rattle.verbs_model.specs.declared.completion.Queue.{Queue}
+use Rattle.verbs_model.specs.declared.declaration.Lines.{Lines}
+use Rattle.verbs_model.specs.declared.declaration.TheConstants.{FIRST_QP}
+use Rattle.verbs_model.specs.declared.entry.Entry.{Entry}
+use Rattle.verbs_model.specs.Answered.{Due, MayAnswer}
+use Rattle.verbs_model.specs.Lines.{is_among, is_declared}
+use Rattle.verbs_model.specs.Start.{start_pair}
+use Rattle.verbs_model.specs.State.{Verbs}
+use Rattle.verbs_model.specs.Step.{MayStep}
+use Rattle.verbs_model.specs.Turned.{Running, after_turn}
+use Rattle.object_places.specs.Objects.{Object, Mark, Lives, Completions}
+use Rattle.object_places.specs.Apart.{ArePlaced, AreApart}
+use Rattle.actor_rules.specs.Owners.{poller_of}
+use Rattle.actor_rules.specs.Actors.{Actors, MayAny, after, says}
+use Rattle.actor_rules.specs.Dues.{dues_at}
+use Rattle.verbs_model.specs.Sane.{Bounds, Sane}
+use Rattle.actor_rules.proofs.Objects.{Lists, IsTied, poll_side}
+use Rattle.actor_rules.proofs.Queues.{QueueLives, QueueStands}
+use Rattle.actor_rules.proofs.Completions.{CompletionsStand}
+use Rattle.actor_rules.proofs.Adapter.{AdapterStands}
+use Rattle.actor_rules.proofs.Threads.{ThreadStands}
+
+-- the queue pairs and what lives are as they were declared
+pub record AsDeclared (d : Lines) (v : Verbs) : Type 0 where
+  pub pairs : (qp : ℕ) → v.pairs qp ≡ start_pair d qp
+  pub pair_lives : (qp : ℕ) → v.pair_lives qp ≡ is_among FIRST_QP (length d.qps) qp
+  pub completions_live : (cq : ℕ) → v.completions_live cq ≡ is_among 0 (length d.cqs) cq
+
+-- Each queue of words stands for its queue of the abstract state, each actor is where the state has it, and the state itself is sane.
+pub record Stands (d : Lines) (programs : List (List Call)) (total : Bounds) (m : Memory) (w : Actors) (v : Verbs) (dues : List (List Due)) : Type 0 where
+  pub lists : Lists
+  pub objects : (o : Object) → Lives d o → IsTied d programs m w lists o
+  pub queues : (queue : Queue) → QueueLives d queue → QueueStands d programs w v (lists.queues queue) queue
+  pub completions : (cq : ℕ) → Lives d (Completions cq) → CompletionsStand d lists (poll_side programs w cq) (w.threads (poller_of programs cq)).given v cq
+  pub adapter : AdapterStands d lists v w.adapter
+  pub threads : (t : ℕ) → ThreadStands d programs (suc t) (w.threads (suc t)) (dues_at dues (suc t))
+  pub declared : AsDeclared d v
+  pub long : length dues ≡ length programs
+  pub sane : Sane (length d.qps) total v dues
+
+pub record Holds (d : Lines) (programs : List (List Call)) (total : Bounds) (m : Memory) (w : Actors) (r : Running) : Type 0 where
+  pub dues : List (List Due)
+  pub owed : r.owed ≡ dues_at dues
+  pub stands : Stands d programs total m w r.verbs dues
+
+-- an entry is a step of the verbs queues, and one that its thread owes
+abbrev pub IsDue : Running → ℕ → Entry → Type 0
+IsDue r zero e = Unit {0}
+IsDue r (suc t) e = MayAnswer (r.owed (suc t)) e.what
+
+pub record MayTurn (r : Running) (e : Entry) : Type 0 where
+  pub legal : MayStep r.verbs e
+  pub due : IsDue r e.actor e
+
+-- what an operation keeps that says this
+abbrev pub Goes : Lines → List (List Call) → Bounds → Memory → Actors → Running → Option Entry → Type 0
+Goes d programs total m w r None = Holds d programs total m w r
+Goes d programs total m w r (Some e) = MayTurn r e × Holds d programs total m w (after_turn r e)
+
+-- objects lie where they should, and apart
+pub record IsMapped (d : Lines) : Type 0 where
+  pub declared : IsTrue (is_declared d)
+  pub placed : ArePlaced
+  pub apart : AreApart
+
+-- the step that a law over all operations is made of
+abbrev pub Step : Lines → List (List Call) → Bounds → Type 0
+Step d programs total = (m : Memory) (w : Actors) (r : Running) (x : Marked Mark) → Holds d programs total m w r → Tells m x.entry → MayAny d w x → Goes d programs total (after_entry m x.entry) (after d w x) r (says d w x)

@@ -1,0 +1,150 @@
+-- The store of the consumer index by a poll.
+use Rattle.std.proofs.Common.{◌≡◌, ℕ, refl, sym, ap, ◌∙◌, subst, arith, ◌≤◌, ◌+◌, ◌-◌, List, [], length, Option, None, Some}
+use Rattle.std.proofs.lemmas.List.{length-drop}
+use Rattle.bus_core.specs.declared.operation.BusEntry.{BusEntry}
+use Rattle.bus_core.specs.Trace.{Memory, after_entry, Tells}
+use Rattle.verbs_model.specs.declared.call.Call.{Call}
+use Rattle.verbs_model.specs.declared.completion.Completion.{Completion}
+use Rattle.verbs_model.specs.declared.declaration.Lines.{Lines}
+use Rattle.verbs_model.specs.declared.entry.What.TheVariants.{Ack}
+use Rattle.verbs_model.specs.declared.state.Unpolled.{Unpolled}
+use Rattle.verbs_model.specs.State.{CompletionQueue, Verbs}
+use Rattle.verbs_model.specs.Step.{after}
+use Rattle.owner_ring.specs.Place.{size}
+use Rattle.owner_ring.specs.Consumer.{Consumer, next_index}
+use Rattle.owner_ring.proofs.Tied as ring_tied
+use Rattle.cqe_format.specs.declared.completion.Cqe.{Cqe}
+use Rattle.cq_pair.specs.Place.{ring_of}
+use Rattle.cq_pair.specs.Mark.{QueueMark, Acknowledge}
+use Rattle.cq_pair.specs.Queue.{PlainQueue, Acked, produced, since}
+use Rattle.cq_pair.specs.Queue as plain
+use Rattle.cq_pair.specs.Host.{MayPoll}
+use Rattle.cq_pair.proofs.Tied as completions
+use Rattle.cq_pair.proofs.HostStep as host
+use Rattle.cq_pair.proofs.Rows.{reads_as_history}
+use Rattle.cq_pair.proofs.Says.{poll_inside}
+use Rattle.counted_ring.specs.Retirer.{Asked, Retirer}
+use Rattle.object_places.specs.Objects.{OnCompletions}
+use Rattle.object_places.specs.Places.{completions_of}
+use Rattle.provider_poll.specs.declared.state.PollState.TheVariants as states
+use Rattle.provider_poll.specs.Rule.{PollRule, OnHost, MayAcknowledge}
+use Rattle.provider_poll.specs.RuleTurned.{poll_side_turned, after_poll_side}
+use Rattle.actor_rules.specs.Thread.{poll_place}
+use Rattle.actor_rules.specs.Polling.{store_says}
+use Rattle.actor_rules.specs.Actors.{Actors}
+use Rattle.actor_rules.proofs.Matching.{Match, match_weaken, match_length}
+use Rattle.actor_rules.proofs.Objects.{Lists, retirer_in}
+use Rattle.actor_rules.proofs.Completions.{CompletionsStand, IsCompletion, AskedFor}
+use Rattle.actor_rules.proofs.PollFrame.{put_here, put_there, work_refl, requests_refl, completion_same}
+use Rattle.actor_rules.proofs.PollNow.{PollNow}
+use Rattle.actor_rules.proofs.PollOutcomes.{Outcome, Ends}
+use Rattle.actor_rules.proofs.PollMoves.{VerbsKept, host_moves, only}
+
+idle_acking : (taken : ℕ) (empty : Option ℕ) (place : ℕ) (asked : Option Asked) → AskedFor (states.Acking taken empty) place asked → AskedFor states.Idle place asked
+idle_acking taken empty place None h = tt
+idle_acking taken empty place (Some a) h = absurd h
+
+module _ (d : Lines) (programs : List (List Call)) (m : Memory) (w : Actors) (t cq most : ℕ) (l : Lists) (v : Verbs) (c : Consumer) (seen : ℕ) (rs : List Retirer) (taken : ℕ) (empty : Option ℕ) (given : List Completion)
+    (now : PollNow d programs m w t cq most l v (record { host = c; seen = seen; retirers = rs; state = states.Acking taken empty }) given) (e : BusEntry) (tells : Tells m e) where
+  abbrev side : PollRule
+  side = record { host = c; seen = seen; retirers = rs; state = states.Acking taken empty }
+
+  abbrev q : PlainQueue
+  q = l.completions cq
+
+  abbrev us : List Unpolled
+  us = (v.completions cq).unpolled
+
+  abbrev index : ℕ
+  index = next_index c
+
+  abbrev mark : QueueMark
+  mark = Acknowledge index
+
+  abbrev q' : PlainQueue
+  q' = plain.after_event q (Acked index)
+
+  -- the index of the oldest completion that no poll took
+  abbrev oldest : ℕ
+  oldest = (v.completions cq).produced - length us
+
+  -- the state after the entry
+  abbrev v' : Verbs
+  v' = after v (Ack cq oldest)
+
+  from_is : now.stands.from ≡ index
+  from_is = let same : now.stands.from ≡ now.stands.from + 0 = omega arith in same ∙ now.stands.from_is
+
+  within : index ≤ produced q
+  within = omega (arith, (ring_tied.known now.host.entries c now.host.ring.consumer).next_in, completions.same_produced now.host.entries (w.adapter.queues cq) c q now.host.fits)
+
+  oldest_is : index ≡ oldest
+  oldest_is =
+      let words = match_length (IsCompletion l) (since q now.stands.from) us now.stands.unpolled in
+      let counted = (reads_as_history (size (ring_of (completions_of d cq))) q).counted now.stands.from now.stands.low (omega (arith, from_is, within)) in
+      omega (arith, words, counted, now.stands.produced, from_is)
+
+  ack_keeps : VerbsKept d cq v v'
+  ack_keeps = record {
+    same = record { queues = λ queue. work_refl (v.queues queue); pairs = λ qp. refl; pair_lives = λ qp. refl; completions_live = λ k. refl; owed = refl };
+    others = λ k apart. put_there v.completions cq (record (v.completions cq) { acked = oldest }) k apart;
+    ends = λ qp lives away. refl;
+  }
+
+  completions_now : v'.completions cq ≡ record (v.completions cq) { acked = oldest }
+  completions_now = put_here v.completions cq (record (v.completions cq) { acked = oldest })
+
+  module _ (may : MayPoll (completions_of d cq) c mark e) where
+    abbrev now_is : PollRule
+    now_is = after_poll_side (poll_place d cq) side (OnHost mark) e
+
+    goes : completions.Goes (completions_of d cq) (after_entry m e) (w.adapter.queues cq) now_is.host q (Some (Acked index))
+    goes = host.host_step (completions_of d cq) m (w.adapter.queues cq) c q mark e now.fine now.host tells may
+
+    stands_then : CompletionsStand d (only l q') now_is [] v' cq
+    stands_then =
+        let s = now.stands in
+        let low : q.acked ≤ index = omega (arith, s.low, from_is) in
+        let unpolled_is : since q' s.from ≡ since q s.from = (reads_as_history (size (ring_of (completions_of d cq))) q).acked index s.from goes.0 (omega (arith, from_is)) in
+        let unpolled : Match (IsCompletion (only l q')) (since q s.from) us = match_weaken (IsCompletion l) (IsCompletion (only l q')) (λ x u is. completion_same d l (only l q') (λ queue. requests_refl (l.queues queue)) x u is) (since q s.from) us s.unpolled in
+        record {
+          acked = ap (λ (x : CompletionQueue). x.acked) completions_now ∙ sym oldest_is;
+          produced = ap (λ (x : CompletionQueue). x.produced) completions_now ∙ s.produced ∙ (let same : produced q ≡ produced q' = omega (arith, length-drop (index - q.acked) q.completions, low, within) in same);
+          size = ap (λ (x : CompletionQueue). x.size) completions_now ∙ s.size;
+          runs = s.runs;
+          from = s.from;
+          from_is = s.from_is;
+          low = omega (arith, from_is);
+          unpolled = subst (λ (x : CompletionQueue). Match (IsCompletion (only l q')) (since q' s.from) x.unpolled) (sym completions_now) (subst (λ (cs : List Cqe). Match (IsCompletion (only l q')) cs us) (sym unpolled_is) unpolled);
+          reads = tt;
+          poll = tt;
+          retirers = s.retirers;
+          asked = λ place. idle_acking taken empty place (retirer_in rs place).asked (s.asked place);
+          ends = s.ends;
+        }
+
+    ends_call : Outcome d programs (after_entry m e) w t cq most l v side given now_is (poll_side_turned (poll_place d cq) side (OnHost mark) e).answer (Some (Ack cq index))
+    ends_call = Ends (record {
+      taken = taken;
+      word = empty;
+      some = now.stands.poll;
+      over = refl;
+      says = ap (λ (n : ℕ). Some (Ack cq n)) oldest_is;
+      before = refl;
+      idle = refl;
+      owed = refl;
+      moved = host_moves d programs m w t cq most l v side given now e now_is [] v' q' (record {
+        inside = poll_inside (completions_of d cq) m (w.adapter.queues cq) c q mark e now.host may;
+        tied = goes.1;
+        retirers = refl;
+        verbs = ack_keeps;
+        retired = λ queue. refl;
+        stands = stands_then;
+      });
+    })
+
+  pub acknowledges : (sent : QueueMark) → MayAcknowledge (poll_place d cq) side sent e
+      → Outcome d programs (after_entry m e) w t cq most l v side given (after_poll_side (poll_place d cq) side (OnHost sent) e) (poll_side_turned (poll_place d cq) side (OnHost sent) e).answer (store_says (OnCompletions cq sent))
+  acknowledges sent may =
+      subst (λ (k : QueueMark). Outcome d programs (after_entry m e) w t cq most l v side given (after_poll_side (poll_place d cq) side (OnHost k) e) (poll_side_turned (poll_place d cq) side (OnHost k) e).answer (store_says (OnCompletions cq k)))
+      (sym may.index) (ends_call (subst (λ (k : QueueMark). MayPoll (completions_of d cq) c k e) may.index may.polls))

@@ -1,0 +1,221 @@
+-- What holds before the first operation.
+use Rattle.std.proofs.Common.{◌≡◌, ℕ, zero, suc, ◌<◌, ◌≤◌, ◌-◌, ◌+◌, ◌++◌, arith, refl, sym, ap, subst, ◌∙◌, true, false, Bool, if◌then◌else◌, List, [], ◌∷◌, length, map, IsTrue, Option, None, Some, get_or, slice_get, slice_index_or, drop, ◌^◌}
+use Rattle.std.specs.List.{AllByRecursion, flat_map}
+use Rattle.std.specs.Option.{option_map_or}
+use Rattle.std.proofs.lemmas.Bool.{and_parts, ltb-true, cond_both}
+use Rattle.std.proofs.lemmas.Option.{slice_get-get_or}
+use Rattle.std.proofs.lemmas.List.{length-map}
+use Rattle.bus_core.specs.Trace.{Memory}
+use Rattle.verbs_model.specs.declared.call.Call.{Call}
+use Rattle.verbs_model.specs.declared.call.Call.TheVariants.{Post, Recv, Poll, Drain}
+use Rattle.verbs_model.specs.declared.completion.Queue.{Queue}
+use Rattle.verbs_model.specs.declared.completion.Queue.TheVariants as queues
+use Rattle.verbs_model.specs.declared.declaration.Lines.{Lines}
+use Rattle.verbs_model.specs.declared.declaration.QpLine.{QpLine}
+use Rattle.verbs_model.specs.declared.state.Unpolled.{Unpolled}
+use Rattle.verbs_model.specs.declared.declaration.TheConstants.{FIRST_QP}
+use Rattle.verbs_model.specs.declared.request.Item.{Item}
+use Rattle.verbs_model.specs.declared.request.Item.TheVariants.{Request as TheRequest, Receive as TheReceive}
+use Rattle.verbs_model.specs.Answered.{Due, due_by}
+use Rattle.verbs_model.specs.Lines.{is_among, is_declared}
+use Rattle.verbs_model.specs.Same.{same_queue}
+use Rattle.verbs_model.specs.Start.{start, for_line, start_queue, start_pair, fresh_queue, no_queue, fresh_completions, no_completions}
+use Rattle.verbs_model.specs.State.{Verbs, WorkQueue, CompletionQueue}
+use Rattle.verbs_model.specs.Turned.{Running}
+use Rattle.actor_map.specs.Start.{start_words}
+use Rattle.cq_pair.specs.Queue as completions
+use Rattle.cq_pair.proofs.Law as completions_law
+use Rattle.counted_ring.specs.Law.{fresh_finder, fresh_poster, fresh_device}
+use Rattle.counted_ring.specs.Queue as counted
+use Rattle.counted_ring.specs.Retirer.{Retirer}
+use Rattle.counted_ring.proofs.Law as requests_law
+use Rattle.counted_ring.proofs.Tied.{Tied}
+use Rattle.object_places.specs.Apart.{AreAtStart}
+use Rattle.object_places.specs.Objects.{Object, Completions, Sends, Receives, Lives}
+use Rattle.object_places.specs.Places.{send_of, receive_of, completions_of, qp_line, cq_line, no_qp, no_cq}
+use Rattle.actor_rules.specs.Thread.{Thread, fresh_thread, fresh_poll, program_of, completing, queue_place, queue_start}
+use Rattle.actor_rules.specs.Actors.{Actors, fresh_actors}
+use Rattle.actor_rules.specs.Polling.{place_in}
+use Rattle.device_engine.specs.State.{AdapterAt, Looking, Ending, send_cq, first_work, fresh_adapter}
+use Rattle.actor_rules.specs.Dues.{dues_at, thread_dues, call_dues}
+use Rattle.verbs_model.specs.Sane.{Bounds, Sane}
+use Rattle.provider_poll.specs.declared.state.PollState.TheVariants.{Idle}
+use Rattle.actor_rules.specs.Owners.{poster_of}
+use Rattle.actor_rules.proofs.Matching.{Match}
+use Rattle.actor_rules.proofs.Objects.{Lists, IsTied, retirer_in}
+use Rattle.actor_rules.proofs.Queues.{QueueLives, QueueStands, IsItem, segments_of, written, written_by, accepted}
+use Rattle.actor_rules.proofs.Completions.{CompletionsStand, IsCompletion, AskedFor}
+use Rattle.actor_rules.proofs.Adapter.{AdapterStands, AdapterStandsAt}
+use Rattle.actor_rules.specs.Ready.{AreReady, IsOwnCall, first_dues}
+use Rattle.actor_rules.proofs.Threads.{StandsAt, ThreadStands}
+use Rattle.actor_rules.proofs.Holding.{AsDeclared, Stands, Holds, IsMapped}
+
+-- what the map of objects and the programs give a run to begin with
+pub record CanAct (d : Lines) (programs : List (List Call)) (bounds : Bounds) : Type 0 where
+  pub map : IsMapped d
+  pub starts : AreAtStart
+  pub ready : AreReady d programs bounds
+
+-- the value for a line that there is
+for_line_at : {X V : Type 0} (first : ℕ) (lines : List X) (value : X → V) (none : V) (other : X) (number : ℕ) → IsTrue (is_among first (length lines) number) → for_line first lines value none number ≡ value (get_or lines (number - first) other)
+for_line_at first lines value none other number among =
+    let low : number - first < length lines = ltb-true (number - first) (length lines) (and_parts _ _ among).1 in
+    rw among (rw (slice_get-get_or lines (number - first) other low) refl)
+
+-- where the value of every line has something, so has the value where there is none
+for_line_all : {X V : Type 0} (P : V → Type 0) (first : ℕ) (lines : List X) (value : X → V) (none : V) (number : ℕ) → ((x : X) → P (value x)) → P none → P (for_line first lines value none number)
+for_line_all {X = X} P first lines value none number each nothing = cond_both (is_among first (length lines) number) (option_map_or value (slice_get lines (number - first)) none) none P (λ among. there (slice_get lines (number - first))) (λ beyond. nothing)
+  where
+    there : (found : Option X) → P (option_map_or value found none)
+    there None = nothing
+    there (Some x) = each x
+
+-- before its first post a thread has written nothing
+pub written_none : (queue : Queue) (t : Thread) (calls : List Call) → t.posting ≡ None → written_by queue t calls ≡ []
+written_none queue t [] none = refl
+written_none queue t (Post qp requests ∷ rest) none = rw none (same_both (same_queue queue (queues.Send qp)))
+  where
+    same_both : (b : Bool) → (if b then accepted None (map TheRequest requests) else []) ≡ []
+    same_both true = refl
+    same_both false = refl
+written_none queue t (Recv qp receives ∷ rest) none = rw none (same_both (same_queue queue (queues.Recv qp)))
+  where
+    same_both : (b : Bool) → (if b then accepted None (map TheReceive receives) else []) ≡ []
+    same_both true = refl
+    same_both false = refl
+written_none queue t (Poll cq most ∷ rest) none = refl
+written_none queue t (Drain cq count ∷ rest) none = refl
+
+fresh_retirers : (qps : List ℕ) (place : ℕ) → retirer_in (map (λ (qp : ℕ). fresh_finder.retirer) qps) place ≡ fresh_finder.retirer
+fresh_retirers [] zero = refl
+fresh_retirers [] (suc place) = refl
+fresh_retirers (qp ∷ qps) zero = refl
+fresh_retirers (qp ∷ qps) (suc place) = fresh_retirers qps place
+
+module _ (d : Lines) (programs : List (List Call)) where
+  abbrev w : Actors
+  w = fresh_actors d programs
+
+  abbrev lists : Lists
+  lists = record { completions = λ cq. completions.empty_queue (cq_line d cq).start; queues = λ queue. counted.empty_queue (queue_start d queue) }
+
+  objects_start : AreAtStart → IsTrue (is_declared d) → (o : Object) → Lives d o → IsTied d programs (start_words d 1) w lists o
+  objects_start starts declared (Completions cq) lives = completions_law.start_tied (completions_of d cq) (cq_line d cq).start (start_words d 1) (starts d 1 (Completions cq) declared lives)
+  objects_start starts declared (Sends qp) lives =
+      let place = send_of d qp in
+      let begun = requests_law.start_tied place (qp_line d qp).start (start_words d 1) (starts d 1 (Sends qp) declared lives) in
+      subst (λ (r : Retirer). Tied place (start_words d 1) (fresh_poster (qp_line d qp).start) r (fresh_device (qp_line d qp).start) (counted.empty_queue (qp_line d qp).start)) (sym (fresh_retirers (completing d (send_cq d qp)) (place_in d (send_cq d qp) qp))) begun
+  objects_start starts declared (Receives qp) lives = requests_law.start_tied (receive_of d qp) (qp_line d qp).start (start_words d 1) (starts d 1 (Receives qp) declared lives)
+
+  send_start : (qp : ℕ) → Lives d (Sends qp) → start_queue d (queues.Send qp) ≡ fresh_queue (qp_line d qp).send_log (qp_line d qp).segments
+  send_start qp lives = for_line_at FIRST_QP d.qps (λ (l : QpLine). fresh_queue l.send_log l.segments) no_queue no_qp qp lives
+
+  receive_start : (qp : ℕ) → Lives d (Receives qp) → start_queue d (queues.Recv qp) ≡ fresh_queue (qp_line d qp).recv_log (qp_line d qp).segments
+  receive_start qp lives = for_line_at FIRST_QP d.qps (λ (l : QpLine). fresh_queue l.recv_log l.segments) no_queue no_qp qp lives
+
+  completions_start : (cq : ℕ) → Lives d (Completions cq) → (start d).completions cq ≡ fresh_completions (cq_line d cq)
+  completions_start cq lives =
+      let same : cq - 0 ≡ cq = omega arith in
+      for_line_at 0 d.cqs fresh_completions no_completions no_cq cq lives ∙ ap (λ (k : ℕ). fresh_completions (get_or d.cqs k no_cq)) same
+
+  nothing_written : (queue : Queue) → written programs w queue ≡ []
+  nothing_written queue = written_none queue (w.threads (poster_of programs queue)) (w.threads (poster_of programs queue)).calls refl
+
+  -- a queue as its line declares it stands for an empty one
+  queue_stands : (queue : Queue) (log segments : ℕ) → start_queue d queue ≡ fresh_queue log segments → 2 ^ log ≡ (queue_place d queue).max_post → segments ≡ segments_of d queue → QueueStands d programs w (start d) (counted.empty_queue (queue_start d queue)) queue
+  queue_stands queue log segments is room segments_are =
+      let posted : (start d).queues queue ≡ fresh_queue log segments = is in record {
+        posted = subst (λ (items : List Item). Match (IsItem d queue) [] items) (sym (ap (λ (u : WorkQueue). u.posted ++ written programs w queue) is ∙ nothing_written queue)) tt;
+        rung = sym (ap (λ (u : WorkQueue). length u.posted) is);
+        taken = ap (λ (u : WorkQueue). u.taken) is;
+        retired = ap (λ (u : WorkQueue). u.retired) is;
+        room = ap (λ (u : WorkQueue). u.room) is ∙ room;
+        segments = ap (λ (u : WorkQueue). u.segments) is ∙ segments_are;
+        told = sym (ap (λ (u : WorkQueue). u.posted) is);
+      }
+
+  queues_start : (queue : Queue) → QueueLives d queue → QueueStands d programs w (start d) (lists.queues queue) queue
+  queues_start (queues.Send qp) lives = queue_stands (queues.Send qp) (qp_line d qp).send_log (qp_line d qp).segments (send_start qp lives) refl refl
+  queues_start (queues.Recv qp) lives = queue_stands (queues.Recv qp) (qp_line d qp).recv_log (qp_line d qp).segments (receive_start qp lives) refl refl
+  queues_start (queues.Shared srq) lives = absurd lives
+
+  nothing_ended : (qp : ℕ) → ((start d).queues (queues.Send qp)).ends ≡ []
+  nothing_ended qp = for_line_all (λ (u : WorkQueue). u.ends ≡ []) FIRST_QP d.qps (λ (l : QpLine). fresh_queue l.send_log l.segments) no_queue qp (λ l. refl) refl
+
+  completions_stand : (cq : ℕ) → Lives d (Completions cq) → CompletionsStand d lists (fresh_poll d cq) [] (start d) cq
+  completions_stand cq lives =
+      let is = completions_start cq lives in record {
+        acked = ap (λ (c : CompletionQueue). c.acked) is;
+        produced = ap (λ (c : CompletionQueue). c.produced) is ∙ omega arith;
+        size = ap (λ (c : CompletionQueue). c.size) is;
+        runs = refl;
+        from = (cq_line d cq).start;
+        from_is = omega arith;
+        low = omega arith;
+        unpolled = subst (λ (us : List Unpolled). Match (IsCompletion lists) (completions.since (lists.completions cq) (cq_line d cq).start) us) (sym (ap (λ (c : CompletionQueue). c.unpolled) is)) (none_since ((cq_line d cq).start - (cq_line d cq).start));
+        reads = tt;
+        poll = tt;
+        retirers = length-map (completing d cq) (λ (qp : ℕ). fresh_finder.retirer);
+        asked = λ place. subst (λ (r : Retirer). AskedFor Idle place r.asked) (sym (fresh_retirers (completing d cq) place)) tt;
+        ends = λ qp there into. nothing_ended qp;
+      }
+    where
+      none_since : (n : ℕ) → Match (IsCompletion lists) (drop n []) []
+      none_since zero = tt
+      none_since (suc n) = tt
+
+  first_stands : (work : AdapterAt) → first_work d FIRST_QP ≡ work → AdapterStandsAt d lists (start d) (fresh_adapter d) work
+  first_stands work is = subst (AdapterStandsAt d lists (start d) (fresh_adapter d)) is
+      (cond_both (is_among FIRST_QP (length d.qps) FIRST_QP) Looking Ending (AdapterStandsAt d lists (start d) (fresh_adapter d)) (λ among. record { lives = among; idle = refl }) (λ none. refl))
+
+  adapter_start : AdapterStands d lists (start d) (fresh_adapter d)
+  adapter_start = record {
+    taken = λ qp lives. sym (for_line_all (λ (u : WorkQueue). u.taken ≡ 0) FIRST_QP d.qps (λ (l : QpLine). fresh_queue l.send_log l.segments) no_queue qp (λ l. refl) refl);
+    work = first_stands (first_work d FIRST_QP) refl;
+  }
+
+  -- a thread before its first call
+  pub dues_of_calls : (t : Thread) (calls : List Call) → t.posting ≡ None → ((cq : ℕ) → (t.polls cq).state ≡ Idle) → call_dues d t calls ≡ flat_map due_by calls
+  dues_of_calls t [] none idle = refl
+  dues_of_calls t (Post qp requests ∷ rest) none idle = rw none refl
+  dues_of_calls t (Recv qp receives ∷ rest) none idle = rw none refl
+  dues_of_calls t (Poll cq most ∷ rest) none idle = rw (idle cq) refl
+  dues_of_calls t (Drain cq count ∷ rest) none idle = rw (idle cq) refl
+
+  stands_at : (x : ℕ) (calls : List Call) → StandsAt (fresh_thread d programs x) calls
+  stands_at x [] = record { posting = refl; given = refl; posters = λ queue other. refl; polls = λ cq other. refl }
+  stands_at x (Post qp requests ∷ rest) = record { post = refl; given = refl; posters = λ queue other. refl; polls = λ cq other. refl }
+  stands_at x (Recv qp receives ∷ rest) = record { post = refl; given = refl; posters = λ queue other. refl; polls = λ cq other. refl }
+  stands_at x (Poll cq most ∷ rest) = record { posting = refl; poll = refl; posters = λ queue other. refl; polls = λ cq other. refl }
+  stands_at x (Drain cq count ∷ rest) = record { posting = refl; poll = refl; posters = λ queue other. refl; polls = λ cq other. refl }
+
+  pub first_owed : (ps : List (List Call)) (t : ℕ) → slice_index_or (first_dues ps) t [] ≡ flat_map due_by (slice_index_or ps t [])
+  first_owed [] zero = refl
+  first_owed [] (suc t) = refl
+  first_owed (p ∷ ps) zero = refl
+  first_owed (p ∷ ps) (suc t) = first_owed ps t
+
+  thread_start : (t : ℕ) → AllByRecursion (IsOwnCall d programs (suc t)) (program_of programs (suc t)) → ThreadStands d programs (suc t) (fresh_thread d programs (suc t)) (dues_at (first_dues programs) (suc t))
+  thread_start t calls = record {
+    dues = first_owed programs t ∙ sym (dues_of_calls (fresh_thread d programs (suc t)) (program_of programs (suc t)) refl (λ cq. refl));
+    calls = calls;
+    work = stands_at (suc t) (program_of programs (suc t));
+  }
+
+  -- what holds before the first operation
+  pub start_holds : (bounds : Bounds) → CanAct d programs bounds → Holds d programs bounds (start_words d 1) w (record { verbs = start d; owed = dues_at (first_dues programs) })
+  start_holds bounds can = record {
+    dues = first_dues programs;
+    owed = refl;
+    stands = record {
+      lists = lists;
+      objects = objects_start can.starts can.map.declared;
+      queues = queues_start;
+      completions = completions_stand;
+      adapter = adapter_start;
+      threads = λ t. thread_start t (can.ready.calls t);
+      declared = record { pairs = λ qp. refl; pair_lives = λ qp. refl; completions_live = λ cq. refl };
+      long = length-map programs (flat_map due_by);
+      sane = can.ready.sane;
+    };
+  }

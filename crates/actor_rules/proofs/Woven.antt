@@ -1,0 +1,94 @@
+-- From the rule of each actor to the whole trace, and from one operation to the law.
+use Rattle.std.proofs.Common.{◌≡◌, ◌≢◌, ℕ, zero, suc, inl, inr, refl, sym, ap, subst, ◌∙◌, arith, eqb, ◌==◌, if◌then◌else◌, true, false, List, [], ◌∷◌, Option, Some, None}
+use Rattle.std.specs.Prelude.{map}
+use Rattle.std.specs.List.{filter}
+use Rattle.std.proofs.lemmas.Bool.{eq-eqb}
+use Rattle.std.proofs.lemmas.Bool.Decides.{eqb_tells}
+use Rattle.bus_core.specs.declared.operation.BusEntry.{BusEntry}
+use Rattle.bus_core.specs.Follow.{Follows}
+use Rattle.bus_core.specs.Mark.{Marked, entries}
+use Rattle.bus_core.specs.Trace.{Memory, IsConsistent, Tells, after_entry}
+use Rattle.bus_core.specs.Weave.{TellsApart, spelled}
+use Rattle.bus_core.proofs.Weaving as weaving
+use Rattle.verbs_model.specs.declared.call.Call.{Call}
+use Rattle.verbs_model.specs.declared.declaration.Lines.{Lines}
+use Rattle.verbs_model.specs.declared.entry.Entry.{Entry}
+use Rattle.verbs_model.specs.declared.entry.What.{What}
+use Rattle.verbs_model.specs.Answered.{Due, MayAnswer, after_answer, own_entries}
+use Rattle.verbs_model.specs.Legal.{IsLegal}
+use Rattle.verbs_model.specs.Step.{MayStep, after_entry as step}
+use Rattle.verbs_model.specs.Turned.{Running, after_turn}
+use Rattle.object_places.specs.Objects.{Mark}
+use Rattle.actor_rules.specs.Actors.{Actors, Knows, part, May, MayAny, next, after, after_by, says}
+use Rattle.actor_rules.specs.Run.{own}
+use Rattle.actor_rules.proofs.Holding.{Holds, Goes, IsDue, MayTurn, Step}
+use Rattle.verbs_model.specs.Sane.{Bounds}
+
+actor_of : Marked Mark → ℕ
+actor_of x = x.entry.actor
+
+apart : TellsApart eqb
+apart a b = elim (eqb_tells a b) [ inl t ↦ inl t | inr t ↦ inr t ]
+
+module _ (d : Lines) where
+  -- an operation moves what its own actor knows, and nothing of another
+  moves_by : (actor : ℕ) (w : Actors) (x : Marked Mark) → part actor (after_by d w actor x) ≡ next d actor (part actor w) x
+  moves_by zero w x = refl
+  moves_by (suc t) w x = elim (eqb_tells (suc t) (suc t)) [ inl same ↦ rw same.0 refl | inr differ ↦ absurd (differ.1 refl) ]
+
+  stays_by : (actor k : ℕ) (w : Actors) (x : Marked Mark) → actor ≢ k → part k (after_by d w actor x) ≡ part k w
+  stays_by zero zero w x differ = absurd (differ refl)
+  stays_by zero (suc t) w x differ = refl
+  stays_by (suc t) zero w x differ = refl
+  stays_by (suc t) (suc k) w x differ = elim (eqb_tells (suc k) (suc t)) [ inl same ↦ absurd (differ (sym same.1)) | inr other ↦ rw other.0 refl ]
+
+  -- each actor's own list keeps its rule, so each operation of the trace keeps its actor's
+  pub all_keep : (trace : List (Marked Mark)) (w : Actors) → ((actor : ℕ) → Follows (May d actor) (next d actor) (part actor w) (own actor trace)) → Follows (MayAny d) (after d) w trace
+  all_keep trace w each = weaving.woven eqb apart (λ x. x.entry.actor) Knows part (May d) (next d) (after d) (λ v x. moves_by x.entry.actor v x) (λ k v x differ. stays_by x.entry.actor k v x differ) trace w each
+
+-- what each operation keeps, the trace keeps
+module _ (d : Lines) (programs : List (List Call)) (total : Bounds) (step : Step d programs total) where
+  same_goes : (m : Memory) (w : Actors) (r : Running) (said : Option Entry) → Goes d programs total m w r said → weaving.Goes MayTurn after_turn (Holds d programs total) m w r said
+  same_goes m w r None g = g
+  same_goes m w r (Some e) g = g
+
+  pub turns_follow : (trace : List (Marked Mark)) (m : Memory) (w : Actors) (r : Running) → Holds d programs total m w r → IsConsistent m (entries trace) → Follows (MayAny d) (after d) w trace
+      → Follows MayTurn after_turn r (spelled (after d) (says d) w trace)
+  turns_follow trace m w r holds consistent keeps =
+      weaving.legal_by_steps MayTurn after_turn (Holds d programs total) (λ x. x.entry) (MayAny d) (after d) (says d)
+      (λ n v s x held tells may. same_goes (after_entry n x.entry) (after d v x) s (says d v x) (step n v s x held tells may)) trace m w r holds consistent keeps
+
+-- turns that follow the rule are a legal history
+pub legal_turns : (r : Running) (history : List Entry) → Follows MayTurn after_turn r history → IsLegal r.verbs history
+legal_turns r [] h = tt
+legal_turns r (e ∷ history) h = (h.0.legal, legal_turns (after_turn r e) history h.1)
+
+-- the entry is its thread's, which owed it
+owed_now : (r : Running) (e : Entry) (t : ℕ) → e.actor ≡ suc t → MayTurn r e → MayAnswer (r.owed (suc t)) e.what
+owed_now r e t same may = due_by e.actor same may.due
+  where
+    due_by : (actor : ℕ) → actor ≡ suc t → IsDue r actor e → MayAnswer (r.owed (suc t)) e.what
+    due_by zero never due = absurd (omega (arith, never))
+    due_by (suc k) is due = subst (λ (n : ℕ). MayAnswer (r.owed n) e.what) is due
+
+if_same : {X : Type 0} (j k : ℕ) (x y : X) → j ≡ k → (if j == k then x else y) ≡ x
+if_same j k x y e = ap (λ b. if b then x else y) (eq-eqb j k e)
+
+if_other : {X : Type 0} (j k : ℕ) (x y : X) → j ≢ k → (if j == k then x else y) ≡ y
+if_other j k x y differ = elim (eqb_tells j k) [ inl t ↦ absurd (differ t.1) | inr t ↦ rw t.0 refl ]
+
+-- a thread's entries are those that it owed, in order
+pub answered_turns : (t : ℕ) (history : List Entry) (r : Running) → Follows MayTurn after_turn r history → Follows MayAnswer after_answer (r.owed (suc t)) (own_entries (suc t) history)
+answered_turns t [] r h = tt
+answered_turns t (e ∷ history) r h =
+    let rest = answered_turns t history (after_turn r e) h.1 in
+    elim (eqb_tells e.actor (suc t)) [
+      | inl here ↦
+          let now : (after_turn r e).owed (suc t) ≡ after_answer (r.owed (suc t)) e.what = if_same (suc t) e.actor _ _ (sym here.1) ∙ ap (λ k. after_answer (r.owed k) e.what) here.1 in
+          subst (Follows MayAnswer after_answer (r.owed (suc t))) (sym (if_same e.actor (suc t) (e.what ∷ own_entries (suc t) history) (own_entries (suc t) history) here.1))
+          (owed_now r e t here.1 h.0, subst (λ (ds : List Due). Follows MayAnswer after_answer ds (own_entries (suc t) history)) now rest)
+      | inr there ↦
+          let now : (after_turn r e).owed (suc t) ≡ r.owed (suc t) = if_other (suc t) e.actor _ _ (λ same. there.1 (sym same)) in
+          subst (Follows MayAnswer after_answer (r.owed (suc t))) (sym (if_other e.actor (suc t) (e.what ∷ own_entries (suc t) history) (own_entries (suc t) history) there.1))
+          (subst (λ (ds : List Due). Follows MayAnswer after_answer ds (own_entries (suc t) history)) now rest)
+    ]

@@ -1,0 +1,96 @@
+-- All actors: what each knows, its rule over its own operations, and what its marked operations say.
+use Rattle.std.specs.Prelude.{ℕ, zero, suc, ◌≡◌, ◌-◌, ◌++◌, ◌==◌, List, [], Option, None, Some, option_map, slice_get, unwrap_or}
+use Rattle.bus_core.specs.Mark.{Marked}
+use Rattle.verbs_model.specs.declared.call.Call.{Call}
+use Rattle.verbs_model.specs.declared.completion.Queue.{Queue}
+use Rattle.verbs_model.specs.declared.completion.Queue.TheVariants.{Send}
+use Rattle.verbs_model.specs.declared.declaration.Lines.{Lines}
+use Rattle.verbs_model.specs.declared.entry.Entry.{Entry}
+use Rattle.verbs_model.specs.declared.entry.What.{What}
+use Rattle.verbs_model.specs.declared.entry.What.TheVariants.{Post, Fetch, Publish}
+use Rattle.verbs_model.specs.declared.request.Item.{Item}
+use Rattle.verbs_model.specs.declared.request.Item.TheVariants.{Request as TheRequest, Receive as TheReceive}
+use Rattle.verbs_model.specs.Family.{put}
+use Rattle.verbs_model.specs.Same.{same_queue}
+use Rattle.object_places.specs.Objects.{Mark}
+use Rattle.provider_poll.specs.Completion.{completion_of}
+use Rattle.device_engine.specs.State.{AdapterRule, fresh_adapter}
+use Rattle.device_engine.specs.Event.{AdapterEvent, Fetched, Published}
+use Rattle.device_engine.specs.Rule.{adapter_mark, MayAdapt, after_adapt, adapter_says}
+use Rattle.actor_rules.specs.Thread.{Thread, fresh_thread}
+use Rattle.actor_rules.specs.Calls.{MayThread, after_thread, thread_says}
+use Rattle.actor_rules.specs.Family.{put_number}
+
+pub record Actors : Type 0 where
+  pub adapter : AdapterRule
+  pub threads : ℕ → Thread
+  -- all that was posted on each queue, in order
+  pub posted : Queue → List Item
+
+abbrev pub fresh_actors : Lines → List (List Call) → Actors
+fresh_actors d programs = record { adapter = fresh_adapter d; threads = fresh_thread d programs; posted = λ queue. [] }
+
+-- what an actor knows: actor 0 is the adapter, and the others are threads
+abbrev pub Knows : ℕ → Type 0
+Knows zero = AdapterRule
+Knows (suc t) = Thread
+
+abbrev pub part : (actor : ℕ) → Actors → Knows actor
+part zero w = w.adapter
+part (suc t) w = w.threads (suc t)
+
+pub record MayAdapter (d : Lines) (s : AdapterRule) (x : Marked Mark) : Type 0 where
+  pub mark_is : x.mark ≡ adapter_mark d s
+  pub goes_on : MayAdapt d s x.entry
+
+-- the rule of an actor over its own operations
+abbrev pub May : Lines → (actor : ℕ) → Knows actor → Marked Mark → Type 0
+May d zero s x = MayAdapter d s x
+May d (suc t) s x = MayThread d s (suc t) x
+
+abbrev pub next : Lines → (actor : ℕ) → Knows actor → Marked Mark → Knows actor
+next d zero s x = after_adapt d s x.entry
+next d (suc t) s x = after_thread d s x
+
+-- the id that stands in the queue for the request of this number, counted from 1
+abbrev pub id_of : Item → ℕ
+id_of (TheRequest r) = r.id
+id_of (TheReceive r) = r.id
+
+abbrev pub id_in : List Item → ℕ → ℕ
+id_in items number = unwrap_or (option_map id_of (slice_get items (number - 1))) 0
+
+-- a published completion is that of its words, with the id that was stored for its request
+abbrev pub adapter_entry : (Queue → List Item) → AdapterEvent → What
+adapter_entry posted (Fetched qp number) = Fetch (Send qp) number
+adapter_entry posted (Published cq completion number index) = Publish cq (completion_of completion (id_in (posted (Send completion.qpn)) number))
+
+-- what a marked operation says
+abbrev pub what_of : Lines → Actors → ℕ → Marked Mark → Option What
+what_of d w zero x = option_map (adapter_entry w.posted) (adapter_says d w.adapter x.entry)
+what_of d w (suc t) x = thread_says d (w.threads (suc t)) x
+
+abbrev pub by : ℕ → What → Entry
+by actor what = record { actor = actor; what = what }
+
+abbrev pub says : Lines → Actors → Marked Mark → Option Entry
+says d w x = option_map (by x.entry.actor) (what_of d w x.entry.actor x)
+
+abbrev pub posted_with : (Queue → List Item) → Option What → Queue → List Item
+posted_with posted (Some (Post queue items)) = put same_queue posted queue (posted queue ++ items)
+posted_with posted _ = posted
+
+abbrev pub after_by : Lines → Actors → ℕ → Marked Mark → Actors
+after_by d w zero x = record { adapter = after_adapt d w.adapter x.entry; threads = w.threads; posted = w.posted }
+after_by d w (suc t) x = record {
+  adapter = w.adapter;
+  threads = put_number w.threads (suc t) (after_thread d (w.threads (suc t)) x);
+  posted = posted_with w.posted (what_of d w (suc t) x);
+}
+
+abbrev pub after : Lines → Actors → Marked Mark → Actors
+after d w x = after_by d w x.entry.actor x
+
+-- an operation keeps its actor's rule
+abbrev pub MayAny : Lines → Actors → Marked Mark → Type 0
+MayAny d w x = May d x.entry.actor (part x.entry.actor w) x

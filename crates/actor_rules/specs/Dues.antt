@@ -1,0 +1,57 @@
+-- What a thread still owes, by its calls and how far it has come.
+use Rattle.std.specs.Prelude.{ℕ, zero, suc, ◌-◌, ◌++◌, ◌==◌, Bool, true, false, List, [], ◌∷◌, length, map, replicate, take, flat_map, slice_index_or, Option, None, Some, is_some, if◌then◌else◌}
+use Rattle.verbs_model.specs.declared.call.Call.{Call}
+use Rattle.verbs_model.specs.declared.call.Call.TheVariants.{Post, Recv, Poll, Drain}
+use Rattle.verbs_model.specs.declared.completion.Queue.{Queue}
+use Rattle.verbs_model.specs.declared.completion.Queue.TheVariants as queues
+use Rattle.verbs_model.specs.declared.declaration.Lines.{Lines}
+use Rattle.verbs_model.specs.declared.request.Item.{Item}
+use Rattle.verbs_model.specs.declared.request.Item.TheVariants.{Request as TheRequest, Receive as TheReceive}
+use Rattle.verbs_model.specs.Answered.{Due, Posting, Accepting, Polling, Draining, Retiring, Acking, due_by}
+use Rattle.provider_post.specs.declared.call.Call as post
+use Rattle.provider_poll.specs.declared.state.End.{End}
+use Rattle.provider_poll.specs.declared.state.PollState.{PollState}
+use Rattle.provider_poll.specs.declared.state.PollState.TheVariants as states
+use Rattle.actor_rules.specs.Thread.{Thread, completing}
+
+-- what the thread of a number owes, where the threads owe this in order; they are numbered from 1
+abbrev pub dues_at : List (List Due) → ℕ → List Due
+dues_at dues zero = []
+dues_at dues (suc t) = slice_index_or dues t []
+
+-- a post whose record is stored owes nothing; one that was refused owes what was accepted
+abbrev pub post_dues : Queue → List Item → Option post.Call → List Due
+post_dues queue items None = Posting queue items ∷ []
+post_dues queue items (Some call) = if call.recorded then [] else if is_some call.refused then Accepting queue (take call.accepted items) ∷ [] else Posting queue items ∷ []
+
+-- the queue of an end, and what stands to be stored
+abbrev pub retiring : Lines → ℕ → End → Due
+retiring d cq end = Retiring (queues.Send (slice_index_or (completing d cq) end.queue 0))
+
+abbrev pub store_dues : Lines → ℕ → PollState → List Due
+store_dues d cq (states.Retiring taken empty left) = map (retiring d cq) left.items ++ Acking cq ∷ []
+store_dues d cq (states.Acking taken empty) = Acking cq ∷ []
+store_dues d cq _ = []
+
+-- the poll's loads are over
+abbrev pub is_storing : PollState → Bool
+is_storing (states.Retiring taken empty left) = true
+is_storing (states.Acking taken empty) = true
+is_storing _ = false
+
+abbrev pub poll_dues : Lines → ℕ → ℕ → PollState → List Due
+poll_dues d cq most state = if is_storing state then store_dues d cq state else Polling cq most ∷ []
+
+abbrev pub drain_dues : Lines → ℕ → ℕ → PollState → List Due
+drain_dues d cq count state = if is_storing state then store_dues d cq state ++ replicate (count - 1) (Draining cq) else replicate count (Draining cq)
+
+-- of the first call that is left, and of the others
+abbrev pub call_dues : Lines → Thread → List Call → List Due
+call_dues d t [] = []
+call_dues d t (Post qp requests ∷ rest) = post_dues (queues.Send qp) (map TheRequest requests) t.posting ++ flat_map due_by rest
+call_dues d t (Recv qp receives ∷ rest) = post_dues (queues.Recv qp) (map TheReceive receives) t.posting ++ flat_map due_by rest
+call_dues d t (Poll cq most ∷ rest) = poll_dues d cq most (t.polls cq).state ++ flat_map due_by rest
+call_dues d t (Drain cq count ∷ rest) = drain_dues d cq count (t.polls cq).state ++ flat_map due_by rest
+
+abbrev pub thread_dues : Lines → Thread → List Due
+thread_dues d t = call_dues d t t.calls

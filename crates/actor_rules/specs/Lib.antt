@@ -1,0 +1,10 @@
+pub mod Family
+pub mod Owners
+pub mod Thread
+pub mod Posting
+pub mod Polling
+pub mod Calls
+pub mod Actors
+pub mod Dues
+pub mod Ready
+pub mod Run
