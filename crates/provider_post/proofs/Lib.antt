@@ -6,3 +6,4 @@ pub mod Rings
 pub mod Turns
 pub mod Items
 pub mod Rule
+pub mod Tested

@@ -5,3 +5,4 @@ pub mod Rule
 pub mod Side
 pub mod Queued
 pub mod Inside
+pub mod Tested

@@ -1,0 +1,5 @@
+//! Posts on a plain bus.
+
+mod receives;
+mod scenario;
+mod sends;
