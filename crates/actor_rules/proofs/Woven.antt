@@ -46,6 +46,10 @@ module _ (d : Lines) where
   pub all_keep : (trace : List (Marked Mark)) (w : Actors) → ((actor : ℕ) → Follows (May d actor) (next d actor) (part actor w) (own actor trace)) → Follows (MayAny d) (after d) w trace
   all_keep trace w each = weaving.woven eqb apart (λ x. x.entry.actor) Knows part (May d) (next d) (after d) (λ v x. moves_by x.entry.actor v x) (λ k v x differ. stays_by x.entry.actor k v x differ) trace w each
 
+  -- and back
+  pub own_keep : (trace : List (Marked Mark)) (w : Actors) → Follows (MayAny d) (after d) w trace → (actor : ℕ) → Follows (May d actor) (next d actor) (part actor w) (own actor trace)
+  own_keep trace w keeps actor = weaving.unwoven eqb apart (λ x. x.entry.actor) Knows part (May d) (next d) (after d) (λ v x. moves_by x.entry.actor v x) (λ k v x differ. stays_by x.entry.actor k v x differ) actor trace w keeps
+
 -- what each operation keeps, the trace keeps
 module _ (d : Lines) (programs : List (List Call)) (total : Bounds) (step : Step d programs total) where
   same_goes : (m : Memory) (w : Actors) (r : Running) (said : Option Entry) → Goes d programs total m w r said → weaving.Goes MayTurn after_turn (Holds d programs total) m w r said

@@ -1,0 +1,16 @@
+pub mod Posts
+pub mod Polls
+pub mod PollStores
+pub mod Threads
+pub mod PostSteps
+pub mod PollSteps
+pub mod Steps
+pub mod Stretches
+pub mod CallsEnd
+pub mod DrainsLook
+pub mod Takes
+pub mod Lookups
+pub mod Looks
+pub mod DrainsTake
+pub mod AdapterMoves
+pub mod AdapterGoesOn

@@ -1,0 +1,5 @@
+pub mod Stretch
+pub mod Calls
+pub mod Drains
+pub mod Adapter
+pub mod Run
