@@ -1,0 +1,7 @@
+mod Passing
+mod Posts
+mod ByKind
+mod Moves
+mod Threads
+mod Standing
+mod Tested

@@ -1,0 +1,6 @@
+pub mod Posting
+pub mod Behind
+pub mod Marks
+pub mod Told
+pub mod Telling
+pub mod Tested

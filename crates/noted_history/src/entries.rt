@@ -1,0 +1,36 @@
+//! The history that the notes of a run tell.
+ghost use Rattle.std.specs.Prelude.{◌≡◌, List, IfOk};
+ghost use Rattle.verbs_model.specs.declared.entry.Entry.{Entry};
+ghost use Rattle.verbs_model.specs.Tables.{state_of};
+ghost use Rattle.noted_history.specs.Told.{IsTold};
+
+use crate::log::{Made, Turn};
+use crate::teller::Teller;
+use std::alloc::Global;
+use verbs_model::{Abstract, Call, Entry, NoMemory, Sequence};
+
+/// The entries of these turns, in order, from this state on. A note tells an entry by its numbers; the lists of the
+/// entry are those of the thread's call, of the completions that no poll took, and of what the adapter owes.
+///
+/// `NoMemory` says that memory ran out, or that a note of a full queue has another count of retired requests than the
+/// queue, so that its entry has no step.
+pub fn history_of(
+    alloc: Global,
+    first: Abstract,
+    programs: &[Sequence<Call>],
+    log: &[Turn],
+) -> Result<Vec<Entry>, NoMemory>
+    requires told { (h : List Entry) × IsTold (state_of first) programs.now log.now h }
+    ensures told { (h : List Entry) → IsTold (state_of first) programs.now log.now h → IfOk result (λ v. v.items ≡ h) }
+{
+    let mut teller = Teller::new(alloc, first, programs.len())?;
+    let mut history = Vec::new(alloc);
+    for turn in log {
+        let Made::Entry(note) = turn.made else {
+            continue
+        };
+        let entry = teller.entry(alloc, programs, turn.actor, note)?;
+        history.push(entry).map_err(|_| NoMemory)?;
+    }
+    Ok(history)
+}

@@ -1,0 +1,17 @@
+//! The history that the notes of a run's operations tell: the entry of each note, with the lists that a note has no
+//! room for.
+#![tactic(auto)]
+
+mod entries;
+mod log;
+mod marks;
+mod numbers;
+mod posting;
+mod teller;
+
+pub use entries::history_of;
+pub use log::{Made, Turn};
+pub use marks::marks_of;
+
+#[cfg(test)]
+mod tests;

@@ -1,0 +1,50 @@
+//! What the numbers of a note stand for.
+ghost use Rattle.std.specs.Prelude.{◌≡◌, ℕ, ◌∷◌, ◌≤◌, List, length, map, take, IsTrue, IfOk};
+ghost use Rattle.actor_map.specs.Notes.{queue_number};
+ghost use Rattle.verbs_model.specs.declared.completion.Queue.{Queue};
+ghost use Rattle.verbs_model.specs.declared.state.Act.{Act};
+ghost use Rattle.verbs_model.specs.declared.state.Unpolled.{Unpolled};
+ghost use Rattle.verbs_model.specs.Tables.{state_of};
+
+use std::alloc::Global;
+use verbs_model::{Abstract, Act, Completion, NoMemory, Queue};
+
+/// The queue of this number: 4 times its object's, plus 0 for sends, 1 for receives and 2 for shared receives.
+pub(crate) fn queue_of(number: u32) -> Queue
+    ensures { (queue : Queue) → number ≡ queue_number queue → result ≡ queue }
+{
+    match number % 4 {
+        0 => Queue::Send(number / 4),
+        1 => Queue::Recv(number / 4),
+        _ => Queue::Shared(number / 4),
+    }
+}
+
+/// The oldest completions of a completion queue that no poll took, so many.
+pub(crate) fn first_unpolled(
+    alloc: Global,
+    state: &Abstract,
+    cq: u32,
+    count: usize,
+) -> Result<Vec<Completion>, NoMemory>
+    requires live { IsTrue ((state_of state.now).completions_live cq) }
+    requires there { count ≤ length ((state_of state.now).completions cq).unpolled }
+    ensures { IfOk result (λ v. v.items ≡ map (λ (u : Unpolled). u.completion) (take count ((state_of state.now).completions cq).unpolled)) }
+{
+    let mut completions = Vec::new(alloc);
+    for unpolled in &state.unpolled(cq)[..count] {
+        completions.push(unpolled.completion).map_err(|_| NoMemory)?;
+    }
+    Ok(completions)
+}
+
+/// The completion that the adapter owes next.
+pub(crate) fn owed_completion(state: &Abstract) -> Completion
+    requires { (cq : ℕ) × (u : Unpolled) × (acts : List Act) × ((state_of state.now).owed ≡ Act.Complete cq u ∷ acts) }
+    ensures { (cq : ℕ) (u : Unpolled) (acts : List Act) → (state_of state.now).owed ≡ Act.Complete cq u ∷ acts → result ≡ u.completion }
+{
+    match state.owed() {
+        Some(Act::Complete { owed, .. }) => owed.completion,
+        None => unreachable!(),
+    }
+}

@@ -1,0 +1,130 @@
+//! One entry after another, each told by its note.
+ghost use Rattle.std.specs.Prelude.{◌≡◌, replicate, IfOk};
+ghost use Rattle.verbs_model.specs.declared.entry.Entry.{Entry};
+ghost use Rattle.noted_history.specs.Telling.{CanTell, Tells, Says, Takes};
+
+use crate::numbers::{first_unpolled, owed_completion, queue_of};
+use crate::posting::Posting;
+use actor_map::{ACK, FETCH, POLL, POST, POST_FULL, RETIRE};
+use bus_core::Note;
+use std::alloc::Global;
+use verbs_model::{Abstract, Call, Entry, NoMemory, Sequence, What};
+
+/// How far a history is told.
+#[derive(Drop)]
+pub(crate) struct Teller {
+    /// The state that its entries so far lead to.
+    pub state: Abstract,
+    /// How many calls of each thread are behind.
+    pub postings: Vec<Posting>,
+}
+
+impl Teller {
+    /// Before the first entry, with so many threads.
+    pub fn new(alloc: Global, first: Abstract, threads: usize) -> Result<Teller, NoMemory>
+        ensures { IfOk result (λ t. (t.state ≡ first) × (t.postings.items ≡ replicate threads (record { behind = 0 }))) }
+    {
+        let postings = vec![in alloc; Posting::first(); threads].map_err(|_| NoMemory)?;
+        Ok(Teller {
+            state: first,
+            postings,
+        })
+    }
+
+    /// The next entry, by its actor and its note.
+    pub fn entry(
+        &mut self,
+        alloc: Global,
+        programs: &[Sequence<Call>],
+        actor: u8,
+        note: Note,
+    ) -> Result<Entry, NoMemory>
+        requires { CanTell self.old programs.now (record { actor = actor; note = note }) }
+        ensures { (e : Entry) → Tells self.old programs.now (record { actor = actor; note = note }) e → IfOk result (Takes self.old self.new programs.now e) }
+    {
+        let what = self.what(alloc, programs, actor, note)?;
+        let entry = Entry { actor, what };
+        match self.state.apply(0, &entry) {
+            Ok(()) => Ok(entry),
+            Err(_) => Err(NoMemory),
+        }
+    }
+
+    /// What the next entry says.
+    fn what(
+        &mut self,
+        alloc: Global,
+        programs: &[Sequence<Call>],
+        actor: u8,
+        note: Note,
+    ) -> Result<What, NoMemory>
+        requires { CanTell self.old programs.now (record { actor = actor; note = note }) }
+        ensures { (e : Entry) → Tells self.old programs.now (record { actor = actor; note = note }) e → IfOk result (Says self.old self.new programs.now e) }
+    {
+        match note.kind {
+            POST => self.posted(alloc, programs, actor, note),
+            POST_FULL => Ok(self.refused(programs, actor, note)),
+            POLL => {
+                let completions = first_unpolled(alloc, &self.state, note.object, note.b as usize)?;
+                Ok(What::Poll {
+                    cq: note.object,
+                    max: note.a,
+                    completions: Sequence::from_vec(completions),
+                })
+            }
+            RETIRE => Ok(What::Retire {
+                queue: queue_of(note.object),
+                count: note.a,
+            }),
+            ACK => Ok(What::Ack {
+                cq: note.object,
+                index: note.a,
+            }),
+            FETCH => Ok(What::Fetch {
+                queue: queue_of(note.object),
+                number: note.a,
+            }),
+            _ => Ok(What::Publish {
+                cq: note.object,
+                completion: owed_completion(&self.state),
+            }),
+        }
+    }
+
+    /// What a post says: the next items of its thread.
+    fn posted(
+        &mut self,
+        alloc: Global,
+        programs: &[Sequence<Call>],
+        actor: u8,
+        note: Note,
+    ) -> Result<What, NoMemory>
+        requires told { CanTell self.old programs.now (record { actor = actor; note = note }) }
+        requires kind { note.kind ≡ POST }
+        ensures { (e : Entry) → Tells self.old programs.now (record { actor = actor; note = note }) e → IfOk result (Says self.old self.new programs.now e) }
+    {
+        let thread = actor as usize - 1;
+        let calls = programs[thread].as_slice();
+        let items = self.postings[thread].post(alloc, calls, note.a as usize)?;
+        Ok(What::Post {
+            queue: queue_of(note.object),
+            items: Sequence::from_vec(items),
+        })
+    }
+
+    /// What a post says that found its queue full.
+    fn refused(&mut self, programs: &[Sequence<Call>], actor: u8, note: Note) -> What
+        requires told { CanTell self.old programs.now (record { actor = actor; note = note }) }
+        requires kind { note.kind ≡ POST_FULL }
+        ensures { (e : Entry) → Tells self.old programs.now (record { actor = actor; note = note }) e → Says self.old self.new programs.now e result }
+    {
+        let thread = actor as usize - 1;
+        self.postings[thread].refuse(programs[thread].as_slice(), note.a);
+        What::PostFull {
+            queue: queue_of(note.object),
+            pending: note.a,
+            head: note.b,
+            tail: note.c,
+        }
+    }
+}

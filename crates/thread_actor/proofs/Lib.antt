@@ -1,0 +1,17 @@
+pub mod Places
+pub mod Resting
+pub mod Rising
+pub mod Beginning
+pub mod Posting
+pub mod PostTurns
+pub mod Senders
+pub mod PollNotes
+pub mod Polling
+pub mod PollInside
+pub mod Ending
+pub mod PollTurns
+pub mod ReadyPosts
+pub mod ReadyPolls
+pub mod Turning
+pub mod Adding
+pub mod Starting

@@ -1,0 +1,12 @@
+pub mod Sides
+pub mod View
+pub mod Calls
+pub mod Progress
+pub mod Small
+pub mod Turn
+pub mod Fresh
+pub mod Posts
+pub mod Polls
+pub mod Stands
+pub mod NewSides
+pub mod Inside
