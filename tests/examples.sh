@@ -1,5 +1,5 @@
 #!/usr/bin/env bash
-# Each examples/NAME.scenario has the history examples/NAME.history.
+# Each examples/NAME.scenario has the output examples/NAME.output.
 set -uo pipefail
 shopt -s nullglob
 cd -- "$(dirname -- "${BASH_SOURCE[0]}")/.."
@@ -7,11 +7,11 @@ cd -- "$(dirname -- "${BASH_SOURCE[0]}")/.."
 passed=0
 failed=0
 for scenario in examples/*.scenario; do
-    if ./mlx5 run <"$scenario" | cmp - "${scenario%.scenario}.history"; then
+    if ./mlx5 run <"$scenario" | cmp - "${scenario%.scenario}.output"; then
         passed=$((passed + 1))
     else
         failed=$((failed + 1))
-        printf '%s: another history\n' "$scenario"
+        printf '%s: another output\n' "$scenario"
     fi
 done
 printf '%d passed, %d failed\n' "$passed" "$failed"

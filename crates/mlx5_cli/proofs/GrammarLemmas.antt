@@ -8,7 +8,7 @@ use Rattle.scenario_text.specs.declared.fault.ScenarioFault.TheVariants.{Limit}
 use Rattle.scenario_text.specs.declared.scenario.ScenarioParts.{ScenarioParts}
 use Rattle.mlx5_cli.specs.declared.reading.TheConstants.{TEXT_LIMIT}
 use Rattle.mlx5_cli.specs.Grammar.{OfGrammar}
-use Rattle.mlx5_cli.specs.History.{IsHistoryOf}
+use Rattle.mlx5_cli.specs.RunText.{IsRunOf}
 
 short : (long : Bool) (text : List ℕ) (rest : Answer) (s : ScenarioParts) → nat_lt 4194304 (length text) ≡ long → (cond long (Err (Limit Text 4194305)) rest) ≡ Ok s → length text ≤ TEXT_LIMIT
 short true text rest s e h = absurd (cc)
@@ -18,6 +18,6 @@ short false text rest s e h = grind (arith, nat_tests)
 pub length-of_grammar : (text : List ℕ) → OfGrammar text → length text ≤ TEXT_LIMIT
 length-of_grammar text (s, says) = short (nat_lt 4194304 (length text)) text (reading_from nothing_said (split 10 text)) s refl says
 
--- what has a history is of the grammar
-pub of_grammar : {text history : List ℕ} → IsHistoryOf text history → OfGrammar text
+-- what has a run is of the grammar
+pub of_grammar : {input text : List ℕ} → IsRunOf input text → OfGrammar input
 of_grammar is = (is.scenario, is.says)

@@ -1,5 +1,6 @@
 mod Exactly
-mod Entries
+mod Names
+mod Outcomes
 mod FaultLemmas
 mod GrammarLemmas
 mod LayoutNames

@@ -2,7 +2,7 @@ pub mod Command
 pub mod Status
 pub mod Reading
 pub mod Grammar
-pub mod History
+pub mod RunText
 pub mod Layouts
 pub mod Making
 pub mod Run

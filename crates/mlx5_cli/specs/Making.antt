@@ -10,19 +10,19 @@ use Rattle.mlx5_cli.specs.declared.status.Status.{Status}
 use Rattle.mlx5_cli.specs.declared.status.Status.TheVariants.{Malformed, Limit, ReadFault, NoMemory}
 use Rattle.scenario_text.specs.Whole.{HasFault}
 use Rattle.mlx5_cli.specs.Grammar.{OfGrammar}
-use Rattle.mlx5_cli.specs.History.{IsHistoryOf}
+use Rattle.mlx5_cli.specs.RunText.{IsRunOf}
 use Rattle.mlx5_cli.specs.Layouts.{layout_lines}
 use Rattle.mlx5_cli.specs.Reading.{ReadsWhole, ReadsText}
 
--- the text was read, and this is the history of a run of its scenario
-pub record MakesHistory (old new : SourceState) (history : List ℕ) : Type 0 where
+-- the text was read, and this is the text of a run of its scenario
+pub record MakesRun (old new : SourceState) (output : List ℕ) : Type 0 where
   pub text : List ℕ
   pub reads : ReadsWhole old new text
-  pub runs : IsHistoryOf text history
+  pub runs : IsRunOf text output
 
 -- the whole output of a command
 abbrev pub Makes : Command → SourceState → SourceState → List ℕ → Type 0
-Makes Run old new output = MakesHistory old new output
+Makes Run old new output = MakesRun old new output
 Makes (Layout name) old new output = (new ≡ old) × (output ≡ layout_lines name)
 
 -- what was read is refused with this fault

@@ -3,11 +3,11 @@
 #![tactic(auto)]
 
 mod command;
-mod history;
 mod layouts;
 mod line;
 mod reading;
 mod run;
+mod run_text;
 mod status;
 #[cfg(test)]
 mod tests;

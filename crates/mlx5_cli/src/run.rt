@@ -1,13 +1,13 @@
 //! The commands, over a source and two sinks.
 ghost use Rattle.std.specs.Prelude.{◌≡◌, ◌≢◌, IfOk, IfErr};
 ghost use Rattle.mlx5_cli.specs.Status.{line_of};
-ghost use Rattle.mlx5_cli.specs.Making.{MakesHistory, Makes, Stops, StopsRun};
+ghost use Rattle.mlx5_cli.specs.Making.{MakesRun, Makes, Stops, StopsRun};
 ghost use Rattle.mlx5_cli.specs.Run.{call, Says, status_of, Answers, Tells};
 
 use crate::command::{Command, command_of};
-use crate::history::history_of;
 use crate::layouts::layout_lines;
 use crate::reading::{ReadError, TEXT_LIMIT, read_all};
+use crate::run_text::run_of;
 use crate::status::Status;
 use byte_streams::{Sink, Source, write_all};
 use scenario_text::{LimitName, ScenarioFault};
@@ -48,7 +48,7 @@ impl From<ScenarioFault> for Status {
 
 /// Does what the words after the program's name ask for, and gives the status.
 ///
-/// `run` reads a scenario from `source` and writes the history of its run to `out`; `layout NAME`
+/// `run` reads a scenario from `source` and writes the history and the trace of its run to `out`; `layout NAME`
 /// reads nothing and writes the rows of a layout. `out` gets no byte before the whole text is made.
 /// The line of a status other than `Done` goes to `err`; a failed write there changes no status.
 #[tactic(auto, using(crate::proofs::Exactly::answers))]
@@ -104,18 +104,18 @@ fn output_of<S: Source>(alloc: Global, command: Command, source: &mut S) -> Resu
     ensures stops { IfErr result (Stops command (S.state source.old) (S.state source.new)) }
 {
     match command {
-        Command::Run => history_read(alloc, source),
+        Command::Run => run_read(alloc, source),
         Command::Layout(layout) => layout_lines(alloc, layout).map_err(|_| Status::NoMemory),
     }
 }
 
-/// The history of a run of the scenario that the source gives.
+/// The text of a run of the scenario that the source gives.
 #[tactic(auto, using(crate::proofs::Refusing::stops_unread, crate::proofs::Refusing::stops_refused))]
-fn history_read<S: Source>(alloc: Global, source: &mut S) -> Result<Vec<u8>, Status>
-    ensures makes { IfOk result (λ history. MakesHistory (S.state source.old) (S.state source.new) history.items) }
+fn run_read<S: Source>(alloc: Global, source: &mut S) -> Result<Vec<u8>, Status>
+    ensures makes { IfOk result (λ output. MakesRun (S.state source.old) (S.state source.new) output.items) }
     ensures stops { IfErr result (StopsRun (S.state source.old) (S.state source.new)) }
 {
     let text = read_all(alloc, source)?;
-    let history = history_of(alloc, text.as_slice())?;
-    Ok(history)
+    let output = run_of(alloc, text.as_slice())?;
+    Ok(output)
 }

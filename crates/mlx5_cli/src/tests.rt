@@ -12,16 +12,15 @@ use std::io::{Read, Write};
 use std::process::Abort;
 use std::test::Fail;
 
-const NO_ENTRIES: &str = "mlx5 history\nend 0\n";
+const NO_ENTRIES: &str = "mlx5 history\nend 0\nmlx5 trace\nend 0\n";
 
 const SCENARIO: &[u8] = b"eq e 1\npd p\ncq c 2 2 e 0\nqp q p c c 2 rq:0 1 0\nconnect q q\n\
 thread a\npost q\n+ 7 nop -\n+ 8 nop c\nend\nthread b\npoll c 1\ndrain c 1\nend\n\
-schedule b a dev*3 b*4\n";
+schedule b a dev\n";
 
-const HISTORY: &str =
-    "mlx5 history\neq e 1\npd p\ncq c 2 2 e 0\nqp q p c c 2 rq:0 1 0\nconnect q q\n\
-b poll c 1 empty\na post q.s + 7 nop - + 8 nop c\ndev fetch q.s 1\ndev fetch q.s 2\n\
-dev publish c q.s:8:0:nop:0:-:-\nb poll c 1 q.s:8:0:nop:0:-:-\nb retire q.s 2\nb ack c 1\nend 8\n";
+const RUN: &str = "mlx5 history\neq e 1\npd p\ncq c 2 2 e 0\nqp q p c c 2 rq:0 1 0\nconnect q q\n\
+b poll c 1 empty\nend 1\nmlx5 trace\nb load 17433 00000000000000f0 *\n\
+a load 17654 0000000000000000\ndev load 17661 0000000000000000\nend 3\n";
 
 /// What a command is to answer, to write and to say.
 #[derive(Clone, Copy)]
@@ -39,7 +38,7 @@ const EMPTY_PRINTED: Answer = Answer {
 
 const PRINTED: Answer = Answer {
     status: Status::Done,
-    output: HISTORY,
+    output: RUN,
     line: "",
 };
 
@@ -206,7 +205,7 @@ fn rows_of_which_a_write_fails(rt: HostRuntime) -> Result<(), Fail> {
 
 #[test]
 fn a_failing_write(rt: HostRuntime) -> Result<(), Fail> {
-    for call in 0..HISTORY.len() {
+    for call in 0..RUN.len() {
         let failing = [call as u64];
         let mut source = TextSource::new(SCENARIO);
         let mut out = TextSink::new(rt.alloc());
@@ -214,7 +213,7 @@ fn a_failing_write(rt: HostRuntime) -> Result<(), Fail> {
         out.failing = &failing;
         let answer = Answer {
             status: Status::WriteFault,
-            output: HISTORY.get(..call).unwrap_or("none"),
+            output: RUN.get(..call).unwrap_or("none"),
             line: "mlx5: write fault\n",
         };
         expect(&rt, &["run"], &mut source, &mut out, &answer)?;

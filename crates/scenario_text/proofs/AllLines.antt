@@ -3,11 +3,11 @@ use Rattle.std.proofs.Common.{◌≡◌, ℕ, ◌+◌, Bool, true, false, List, 
 use Rattle.std.proofs.lemmas.List.Elements.{All-nil, All-from_recursion}
 use Rattle.std.proofs.lemmas.Option.{none-some}
 use Rattle.scenario_text.specs.After.{after_line}
-use Rattle.scenario_text.specs.Bounds.{passed_in_all}
-use Rattle.scenario_text.specs.Calls.{StartsAtZero, IsProgram}
+use Rattle.scenario_text.specs.Bounds.{passed_in_lines, passed_in_run}
+use Rattle.scenario_text.specs.Calls.{IsProgram}
 use Rattle.scenario_text.specs.Naming.{Entry, taken_names}
 use Rattle.scenario_text.specs.Rules.{fault_of}
-use Rattle.scenario_text.specs.Running.{CanRun, CountsFromZero, IsActorOf}
+use Rattle.scenario_text.specs.Running.{CanRun, IsActorOf}
 use Rattle.scenario_text.specs.Sofar.{Said}
 use Rattle.scenario_text.specs.Text.{split}
 use Rattle.scenario_text.specs.Whole.{Answer, Says, nothing_said, parts_said, within_limits, end_in, after_fault, broken, reading_from}
@@ -19,20 +19,25 @@ use Rattle.scenario_text.specs.declared.names.Meaning.TheVariants.{Actor}
 use Rattle.scenario_text.specs.declared.scenario.ScenarioParts.{ScenarioParts}
 use Rattle.scenario_text.specs.declared.sofar.Passed.{Passed}
 use Rattle.scenario_text.specs.declared.sofar.Place.{Place}
-use Rattle.scenario_text.specs.declared.sofar.Place.TheVariants.{Outside, InThread, InPost}
+use Rattle.scenario_text.specs.declared.sofar.Place.TheVariants.{Outside, InThread, InPost, InRecv}
 use Rattle.scenario_text.proofs.ByLine.{after_kept}
 use Rattle.scenario_text.proofs.Ends.{can_run}
 use Rattle.scenario_text.proofs.Standing.{AllThere, AreFilled, AreHeld, IsThere, Kept}
 
 -- an end without a fault is one outside threads, with no limit passed
-limits_end : (s : Said) (p : ScenarioParts) (o : Option Passed) → within_limits o s ≡ Ok p → (o ≡ None) × (parts_said s ≡ p)
-limits_end s p (Some passed) h = absurd (cc)
-limits_end s p None h = (refl, cc)
+limits_end : (o : Option Passed) (rest : Answer) (p : ScenarioParts) → within_limits o rest ≡ Ok p → (o ≡ None) × (rest ≡ Ok p)
+limits_end (Some passed) rest p h = absurd (cc)
+limits_end None rest p h = (refl, h)
 
 end_runs : (s : Said) (p : ScenarioParts) (place : Place) → s.place ≡ place → end_in place s ≡ Ok p → Kept s → CanRun p
-end_runs s p Outside is h kept = let all = limits_end s p (passed_in_all s) h in subst CanRun all.1 (can_run s is all.0 kept)
+end_runs s p Outside is h kept =
+    let lines = limits_end (passed_in_lines s) (within_limits (passed_in_run (parts_said s)) (Ok (parts_said s))) p h in
+    let run = limits_end (passed_in_run (parts_said s)) (Ok (parts_said s)) p lines.1 in
+    let same : parts_said s ≡ p = cc in
+    subst CanRun same (can_run s is lines.0 run.0 kept)
 end_runs s p InThread is h kept = absurd (cc)
 end_runs s p (InPost qp) is h kept = absurd (cc)
+end_runs s p (InRecv qp) is h kept = absurd (cc)
 
 unbroken : (o : Option TextRule) (line : ℕ) (rest : Answer) (p : ScenarioParts) → after_fault o line rest ≡ Ok p → (o ≡ None) × (rest ≡ Ok p)
 unbroken (Some why) line rest p h = absurd (cc)
@@ -59,7 +64,7 @@ taken_there : AllThere nothing_said.lines taken_names
 taken_there = let dev : IsThere nothing_said.lines (Actor 0) = omega arith in All-from_recursion (λ (e : Entry). IsThere nothing_said.lines e.meaning) taken_names (dev, (tt, (tt, tt)))
 
 -- before the first line
-nothing_kept : Kept nothing_said
+pub nothing_kept : Kept nothing_said
 nothing_kept none = record {
   declared = record {
     few = refl;
@@ -68,15 +73,13 @@ nothing_kept none = record {
     cqs = refl;
     qps = refl;
     connects = refl;
-    completions = All-nil StartsAtZero;
-    pairs = All-nil CountsFromZero;
     threads = omega arith;
   };
   named = taken_there;
   pairs = refl;
   queues = refl;
   finished = All-nil (IsProgram nothing_said.lines);
-  opened = (refl, refl);
+  opened = (refl, refl, refl);
   paired = refl;
   held = no_thread_held;
   filled = no_queue_filled;

@@ -2,16 +2,17 @@
 use Rattle.std.proofs.Common.{◌≡◌, ℕ, ◌+◌, Bool, true, false, cond, List, IsTrue, Option, None, Some}
 use Rattle.std.specs.List.{list_all}
 use Rattle.scenario_text.specs.After.{count_line, add_line, add_known, after_line}
-use Rattle.scenario_text.specs.Keywords.{keyword_of}
-use Rattle.scenario_text.specs.Rules.{is_built, is_built_line, broken_by, fault_of}
+use Rattle.scenario_text.specs.Keywords.{keyword_in}
+use Rattle.scenario_text.specs.Built.{is_built, is_built_line}
+use Rattle.scenario_text.specs.Rules.{broken_by, fault_of}
 use Rattle.scenario_text.specs.Sofar.{Said}
 use Rattle.scenario_text.specs.Text.{Line, split, part_at, is_text_byte, is_skipped}
 use Rattle.scenario_text.specs.declared.fault.TextRule.{TextRule}
 use Rattle.scenario_text.specs.declared.fault.TextRule.TheVariants as rules
 use Rattle.scenario_text.specs.declared.keyword.Keyword.{Keyword}
-use Rattle.scenario_text.specs.declared.keyword.Keyword.TheVariants.{Eq, Pd, Cq, Qp, Connect, Thread, End, Post, Item, Poll, Drain, Schedule, Rounds}
+use Rattle.scenario_text.specs.declared.keyword.Keyword.TheVariants.{Eq, Pd, Cq, Qp, Connect, Thread, End, Post, Item, Recv, Receive, Poll, Drain, Schedule, Rounds}
 use Rattle.scenario_text.proofs.Asked.{Passes, passes_rules, unless}
-use Rattle.scenario_text.proofs.InsideLines.{end_kept, post_kept, item_kept, poll_kept, drain_kept}
+use Rattle.scenario_text.proofs.InsideLines.{end_kept, post_kept, item_kept, recv_kept, receive_kept, poll_kept, drain_kept}
 use Rattle.scenario_text.proofs.ObjectLines.{moved}
 use Rattle.scenario_text.proofs.OutsideLines.{eq_kept, pd_kept, cq_kept, qp_kept, connect_kept, thread_kept, schedule_kept, rounds_kept}
 use Rattle.scenario_text.proofs.Standing.{Kept, Stands}
@@ -26,6 +27,8 @@ line_kept Thread line s ok kept = thread_kept line s ok kept
 line_kept End line s ok kept = end_kept line s kept ok
 line_kept Post line s ok kept = post_kept line s kept ok
 line_kept Item line s ok kept = item_kept line s kept ok
+line_kept Recv line s ok kept = recv_kept line s kept ok
+line_kept Receive line s ok kept = receive_kept line s kept ok
 line_kept Poll line s ok kept = poll_kept line s kept ok
 line_kept Drain line s ok kept = drain_kept line s kept ok
 line_kept Schedule line s ok kept = schedule_kept line s ok kept
@@ -48,5 +51,5 @@ after_kept s bytes h kept =
     let text = unless (list_all is_text_byte bytes) rules.Byte _ h in
     skipped_or (is_skipped bytes) _ (count_line s) _ text.1 (count_kept s kept)
     (λ rest.
-    let built = unless (is_built (count_line s) (split 32 bytes)) rules.NotBuilt (broken_by (count_line s) (keyword_of (part_at (split 32 bytes) 0)) (split 32 bytes)) rest in
-    known_kept (keyword_of (part_at (split 32 bytes) 0)) (split 32 bytes) (count_line s) built.0 built.1 (count_kept s kept))
+    let built = unless (is_built (count_line s) (split 32 bytes)) rules.NotBuilt (broken_by (count_line s) (keyword_in s.place (part_at (split 32 bytes) 0)) (split 32 bytes)) rest in
+    known_kept (keyword_in s.place (part_at (split 32 bytes) 0)) (split 32 bytes) (count_line s) built.0 built.1 (count_kept s kept))

@@ -5,15 +5,16 @@ use Rattle.std.proofs.lemmas.List.{length_push}
 use Rattle.std.proofs.lemmas.List.Elements.{All-push, All-weaker}
 use Rattle.std.proofs.lemmas.Option.{none-some, same_Some}
 use Rattle.verbs_model.specs.declared.call.Call.{Call}
-use Rattle.verbs_model.specs.declared.call.Call.TheVariants.{Post}
+use Rattle.verbs_model.specs.declared.call.Call.TheVariants.{Post, Recv}
+use Rattle.verbs_model.specs.declared.request.Receive.{Receive}
 use Rattle.verbs_model.specs.declared.request.Request.{Request}
-use Rattle.scenario_text.specs.Limits.{posted_by, posted_on}
+use Rattle.scenario_text.specs.Limits.{posted_by, posted_on, received_by, received_on}
 use Rattle.scenario_text.specs.Rules.{is_this}
 use Rattle.scenario_text.specs.Sofar.{Said}
 use Rattle.scenario_text.specs.declared.sofar.PairUse.{PairUse}
 use Rattle.scenario_text.specs.declared.sofar.QueueUse.{QueueUse}
 use Rattle.scenario_text.proofs.Growing.{each_push, each_front, each_last, each_weaker}
-use Rattle.scenario_text.proofs.Rooms.{posted_push}
+use Rattle.scenario_text.proofs.Rooms.{SameCounts, counted_push}
 use Rattle.scenario_text.proofs.Sides.{KeepSides, held_kept}
 use Rattle.scenario_text.proofs.Standing.{IsHeld, AllHeld, AreHeld}
 
@@ -33,35 +34,54 @@ module _ (pairs pairs_now : List PairUse) (queues queues_now : List QueueUse) (k
       (each_weaker (AllHeld pairs queues) (AllHeld pairs_now queues_now) all_held_kept front (each_front (AllHeld pairs queues) front program all))
       (All-push (IsHeld pairs_now queues_now (suc (length front))) program call (all_held_kept (suc (length front)) program (each_last (AllHeld pairs queues) front program all)) held)
 
--- a post with more requests is of the same side
-pub held_longer : (pairs : List PairUse) (queues queues_now : List QueueUse) → KeepSides pairs pairs queues queues_now → (front : List (List Call)) (program : List Call) (qp : ℕ) (before now : List Request)
-    → AreHeld pairs queues (front ++ (program ++ Post qp before ∷ []) ∷ []) → AreHeld pairs queues_now (front ++ (program ++ Post qp now ∷ []) ∷ [])
-held_longer pairs queues queues_now keep front program qp before now all =
-    let last : AllHeld pairs queues (suc (length front)) (program ++ Post qp before ∷ []) = each_last (AllHeld pairs queues) front (program ++ Post qp before ∷ []) all in
+-- a last call of the same side in place of another
+pub held_longer : (pairs : List PairUse) (queues queues_now : List QueueUse) → KeepSides pairs pairs queues queues_now → (front : List (List Call)) (program : List Call) (before now : Call)
+    → ((thread : ℕ) → IsHeld pairs queues_now thread before → IsHeld pairs queues_now thread now) → AreHeld pairs queues (front ++ (program ++ before ∷ []) ∷ [])
+    → AreHeld pairs queues_now (front ++ (program ++ now ∷ []) ∷ [])
+held_longer pairs queues queues_now keep front program before now same all =
+    let last : AllHeld pairs queues (suc (length front)) (program ++ before ∷ []) = each_last (AllHeld pairs queues) front (program ++ before ∷ []) all in
     let shorter : AreHeld pairs queues (front ++ program ∷ []) =
-    each_push (AllHeld pairs queues) front program (each_front (AllHeld pairs queues) front (program ++ Post qp before ∷ []) all)
-    (each_front (λ k (c : Call). IsHeld pairs queues (suc (length front)) c) program (Post qp before) last)
+    each_push (AllHeld pairs queues) front program (each_front (AllHeld pairs queues) front (program ++ before ∷ []) all)
+    (each_front (λ k (c : Call). IsHeld pairs queues (suc (length front)) c) program before last)
     in
-    let post : IsHeld pairs queues (suc (length front)) (Post qp before) = each_last (λ k (c : Call). IsHeld pairs queues (suc (length front)) c) program (Post qp before) last in
-    held_more pairs pairs queues queues_now keep front program (Post qp now) (held_kept pairs pairs queues queues_now keep (suc (length front)) (Post qp before) post) shorter
+    let call : IsHeld pairs queues (suc (length front)) before = each_last (λ k (c : Call). IsHeld pairs queues (suc (length front)) c) program before last in
+    held_more pairs pairs queues queues_now keep front program now (same (suc (length front)) (held_kept pairs pairs queues queues_now keep (suc (length front)) before call)) shorter
 
-module _ (k : ℕ) (front : List (List Call)) (program : List Call) where
-  -- a call without requests posts nothing
-  pub posted_none : (call : Call) → posted_by k call ≡ 0 → posted_on k (front ++ (program ++ call ∷ []) ∷ []) ≡ posted_on k (front ++ program ∷ [])
-  posted_none call none = omega (arith, posted_push k front program call, none)
+-- a call without requests and receives posts nothing
+pub posted_none : (front : List (List Call)) (program : List Call) (call : Call) → ((k : ℕ) → posted_by k call ≡ 0) → ((k : ℕ) → received_by k call ≡ 0)
+    → SameCounts (front ++ program ∷ []) (front ++ (program ++ call ∷ []) ∷ [])
+posted_none front program call no_post no_receive = record {
+  posted = λ k. omega (arith, counted_push (posted_by k) front program call, no_post k);
+  received = λ k. omega (arith, counted_push (received_by k) front program call, no_receive k);
+}
 
-  pub posted_one : (qp : ℕ) (requests : List Request) (r : Request)
+-- one more item of a list
+longer_by_one : {X : Type 0} (on : Bool) (xs : List X) (x : X) → cond on (length (xs ++ x ∷ [])) 0 ≡ cond on (length xs) 0 + cond on 1 0
+longer_by_one true xs x = length_push xs x
+longer_by_one false xs x = omega arith
+
+module _ (front : List (List Call)) (program : List Call) (qp k : ℕ) where
+  pub posted_one : (requests : List Request) (r : Request)
       → posted_on k (front ++ (program ++ Post qp (requests ++ r ∷ []) ∷ []) ∷ []) ≡ posted_on k (front ++ (program ++ Post qp requests ∷ []) ∷ []) + cond (qp == k) 1 0
-  posted_one qp requests r =
-      let one : posted_by k (Post qp (requests ++ r ∷ [])) ≡ posted_by k (Post qp requests) + cond (qp == k) 1 0 = by (qp == k) in
-      omega (arith, posted_push k front program (Post qp (requests ++ r ∷ [])), posted_push k front program (Post qp requests), one)
-    where
-      by : (on : Bool) → cond on (length (requests ++ r ∷ [])) 0 ≡ cond on (length requests) 0 + cond on 1 0
-      by true = length_push requests r
-      by false = omega arith
+  posted_one requests r =
+      omega (arith, counted_push (posted_by k) front program (Post qp (requests ++ r ∷ [])), counted_push (posted_by k) front program (Post qp requests), longer_by_one (qp == k) requests r)
 
-pub empty_post : (k qp : ℕ) (requests : List Request) → requests ≡ [] → posted_by k (Post qp requests) ≡ 0
-empty_post k qp requests none = ap (λ (rs : List Request). posted_by k (Post qp rs)) none ∙ by (qp == k)
+  pub posted_rest : (requests : List Request) (r : Request)
+      → received_on k (front ++ (program ++ Post qp (requests ++ r ∷ []) ∷ []) ∷ []) ≡ received_on k (front ++ (program ++ Post qp requests ∷ []) ∷ [])
+  posted_rest requests r = omega (arith, counted_push (received_by k) front program (Post qp (requests ++ r ∷ [])), counted_push (received_by k) front program (Post qp requests))
+
+  pub received_one : (receives : List Receive) (r : Receive)
+      → received_on k (front ++ (program ++ Recv qp (receives ++ r ∷ []) ∷ []) ∷ []) ≡ received_on k (front ++ (program ++ Recv qp receives ∷ []) ∷ []) + cond (qp == k) 1 0
+  received_one receives r =
+      omega (arith, counted_push (received_by k) front program (Recv qp (receives ++ r ∷ [])), counted_push (received_by k) front program (Recv qp receives), longer_by_one (qp == k) receives r)
+
+  pub received_rest : (receives : List Receive) (r : Receive)
+      → posted_on k (front ++ (program ++ Recv qp (receives ++ r ∷ []) ∷ []) ∷ []) ≡ posted_on k (front ++ (program ++ Recv qp receives ∷ []) ∷ [])
+  received_rest receives r = omega (arith, counted_push (posted_by k) front program (Recv qp (receives ++ r ∷ [])), counted_push (posted_by k) front program (Recv qp receives))
+
+-- a list without items
+pub none_on : {X : Type 0} (on : Bool) (xs : List X) → xs ≡ [] → cond on (length xs) 0 ≡ 0
+none_on {X} on xs none = ap (λ (ys : List X). cond on (length ys) 0) none ∙ by on
   where
     by : (on : Bool) → cond {A = ℕ} on 0 0 ≡ 0
     by true = refl

@@ -1,6 +1,6 @@
 -- An item of a list is changed.
 use Rattle.std.proofs.Common.{◌≡◌, ℕ, zero, suc, ◌<◌, ◌≤◌, List, [], ◌∷◌, length, slice_index_or, slice_set, refl, sym, ap, ◌∙◌, subst, arith}
-use Rattle.scenario_text.specs.After.{change}
+use Rattle.scenario_text.specs.AfterObjects.{change}
 
 -- the item that is there is replaced
 pub change_there : {X : Type 0} (by : X → X) (xs : List X) (n : ℕ) (x : X) → n < length xs → ((d : X) → x ≡ slice_index_or xs n d) → slice_set xs n (by x) ≡ change by xs n

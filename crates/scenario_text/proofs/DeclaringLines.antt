@@ -10,10 +10,11 @@ use Rattle.verbs_model.specs.declared.declaration.Object.TheVariants as objects
 use Rattle.verbs_model.specs.declared.declaration.PdLine.{PdLine}
 use Rattle.verbs_model.specs.declared.declaration.QpLine.{QpLine}
 use Rattle.verbs_model.specs.declared.declaration.TheConstants.{FIRST_PD, FIRST_QP}
-use Rattle.scenario_text.specs.After.{name_in, small, small_at, change, connected, add_eq, add_pd, add_cq, add_qp, add_connect}
+use Rattle.scenario_text.specs.Text.{name_in, small, small_at}
+use Rattle.scenario_text.specs.AfterObjects.{change, connected, add_eq, add_pd, add_cq, add_qp, add_connect}
 use Rattle.scenario_text.specs.Bounds.{size_of, recv_log_at}
 use Rattle.scenario_text.specs.Naming.{Entry}
-use Rattle.scenario_text.specs.Rules.{named, qp_named, cq_named}
+use Rattle.scenario_text.specs.Uses.{named, qp_named, cq_named}
 use Rattle.scenario_text.specs.Sofar.{Said}
 use Rattle.scenario_text.specs.Text.{Line, part_at, number_at}
 use Rattle.scenario_text.specs.declared.names.Meaning.{Meaning}
@@ -85,7 +86,7 @@ pub record IsCqText (s : Said) (line : Line) : Type 0 where
   pub low : 1 ≤ number_at line 3
   pub ceiling : number_at line 3 ≤ 12
   pub eq : IsNumber s.lines kinds.Eq (named s kinds.Eq (part_at line 4))
-  pub start : number_at line 5 ≡ 0
+  pub start : number_at line 5 ≤ 2 ^ 32
 
 -- the fields of a `qp` line
 pub record IsQpText (s : Said) (line : Line) : Type 0 where
@@ -97,7 +98,7 @@ pub record IsQpText (s : Said) (line : Line) : Type 0 where
   pub recv_log : recv_log_at line ≤ 8
   pub some : 1 ≤ number_at line 7
   pub segments : number_at line 7 ≤ 8
-  pub start : number_at line 8 ≡ 0
+  pub start : number_at line 8 ≤ 2 ^ 32
 
 module _ (line : Line) (s : Said) (outside : s.place ≡ Outside) (none : shown s ≡ []) (h : Stands s) where
   pub cq_stands : IsCqText s line → Stands (add_cq line s)
@@ -113,7 +114,7 @@ module _ (line : Line) (s : Said) (outside : s.place ≡ Outside) (none : shown 
       right =
           let ceiling = between 1 12 (small_at line 3) (omega (arith, t.low)) (omega (arith, t.ceiling)) in
           let log = between 1 (small_at line 3) (small_at line 2) (omega (arith, t.some)) (omega (arith, t.log, t.ceiling)) in
-          and_from _ _ (and_from _ _ (and_from _ _ ceiling log) t.eq) (le-leb (number_at line 5) (2 ^ 32) (omega (arith, t.start)))
+          and_from _ _ (and_from _ _ (and_from _ _ ceiling log) t.eq) (le-leb (number_at line 5) (2 ^ 32) t.start)
 
       size : min (number_at line 2) 63 ≡ small_at line 2
       size = omega (arith, t.log)
@@ -123,7 +124,7 @@ module _ (line : Line) (s : Said) (outside : s.place ≡ Outside) (none : shown 
         outside = outside;
         none = none;
         threads = refl;
-        declared = declared_cq s.lines h.declared l t.few right t.start;
+        declared = declared_cq s.lines h.declared l t.few right;
         named = all_there_push s.lines (with_cq s.lines l) (more_cq s.lines l) s.names _ (among_push 0 (length s.lines.cqs) s.lines.cqs l (omega arith)) h.named;
         pairs_counted = h.pairs;
         queues_counted = omega (arith, h.queues, length_push s.lines.cqs l, length_push s.queues used);
@@ -146,7 +147,7 @@ module _ (line : Line) (s : Said) (outside : s.place ≡ Outside) (none : shown 
       }
 
       used : PairUse
-      used = record { connected = false; poster = None }
+      used = record { connected = false; poster = None; receiver = None }
 
       right : IsTrue (is_qp_line s.lines l)
       right =
@@ -154,14 +155,14 @@ module _ (line : Line) (s : Said) (outside : s.place ≡ Outside) (none : shown 
           let send = le-leb (small_at line 5) 8 (omega (arith, t.send_log)) in
           let recv = le-leb (small (recv_log_at line)) 8 (omega (arith, t.recv_log)) in
           let segments = between 1 8 (small_at line 7) (omega (arith, t.some)) (omega (arith, t.segments)) in
-          and_from _ _ (and_from _ _ (and_from _ _ (and_from _ _ names send) recv) segments) (le-leb (number_at line 8) (2 ^ 32) (omega (arith, t.start)))
+          and_from _ _ (and_from _ _ (and_from _ _ (and_from _ _ names send) recv) segments) (le-leb (number_at line 8) (2 ^ 32) t.start)
 
       o : IsObjectLine s (with_qp s.lines l) (s.names ++ given line (Object (objects.Qp (FIRST_QP + length s.lines.qps))) ∷ []) (s.pairs ++ used ∷ []) s.queues
       o = record {
         outside = outside;
         none = none;
         threads = refl;
-        declared = declared_qp s.lines h.declared l t.few right t.start;
+        declared = declared_qp s.lines h.declared l t.few right;
         named = all_there_push s.lines (with_qp s.lines l) (more_qp s.lines l) s.names _ (among_push FIRST_QP (FIRST_QP + length s.lines.qps) s.lines.qps l refl) h.named;
         pairs_counted = omega (arith, h.pairs, length_push s.lines.qps l, length_push s.pairs used);
         queues_counted = h.queues;
@@ -178,7 +179,7 @@ module _ (line : Line) (s : Said) (outside : s.place ≡ Outside) (none : shown 
       pairs = change connected (change connected s.pairs (l.a - FIRST_QP)) (l.b - FIRST_QP)
 
       unused : PairUse
-      unused = record { connected = false; poster = None }
+      unused = record { connected = false; poster = None; receiver = None }
 
       o : IsObjectLine s (with_connect s.lines l) s.names pairs s.queues
       o = record {

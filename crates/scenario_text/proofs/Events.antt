@@ -7,7 +7,7 @@ use Rattle.scenario_text.specs.declared.bounds.Bound.{Bound}
 use Rattle.scenario_text.specs.declared.fault.LimitName.TheVariants as limits
 use Rattle.scenario_text.specs.declared.sofar.Passed.{Passed}
 
-abbrev with_passed : Said → Option Passed → Said
+abbrev pub with_passed : Said → Option Passed → Said
 with_passed s p = record s { passed = p }
 
 -- the limits of the first queues were noted

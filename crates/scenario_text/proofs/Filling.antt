@@ -1,5 +1,5 @@
 -- Posted requests and the room that is left fill each completion queue, line by line.
-use Rattle.std.proofs.Common.{◌≡◌, ℕ, ◌+◌, ◌-◌, ◌^◌, ◌<◌, ◌≤◌, ◌==◌, cond, List, [], ◌∷◌, ◌++◌, length, Option, None, Some, slice_get, unwrap_or, ⊎_elim, sym, ap, ◌∙◌, arith}
+use Rattle.std.proofs.Common.{◌≡◌, ℕ, ◌+◌, ◌-◌, ◌^◌, ◌<◌, ◌==◌, cond, List, [], ◌∷◌, ◌++◌, length, Option, None, Some, slice_get, unwrap_or, ⊎_elim, sym, ap, ◌∙◌, arith}
 use Rattle.std.proofs.lemmas.Bool.{cases_eq, eq-eqb, ne_eqb}
 use Rattle.std.proofs.lemmas.Option.{slice_get_within}
 use Rattle.verbs_model.specs.declared.call.Call.{Call}
@@ -7,12 +7,13 @@ use Rattle.verbs_model.specs.declared.declaration.CqLine.{CqLine}
 use Rattle.verbs_model.specs.declared.declaration.Lines.{Lines}
 use Rattle.verbs_model.specs.declared.declaration.QpLine.{QpLine}
 use Rattle.verbs_model.specs.declared.declaration.TheConstants.{FIRST_QP}
-use Rattle.scenario_text.specs.After.{change, fuller}
-use Rattle.scenario_text.specs.Limits.{posted_on, completing_into}
+use Rattle.scenario_text.specs.AfterObjects.{change}
+use Rattle.scenario_text.specs.AfterCalls.{fuller}
+use Rattle.scenario_text.specs.Limits.{completing_into}
 use Rattle.scenario_text.specs.declared.sofar.QueueUse.{QueueUse}
 use Rattle.scenario_text.proofs.Declaring.{with_cq}
 use Rattle.scenario_text.proofs.Growing.{push_get, push_before, push_last, change_here, change_other}
-use Rattle.scenario_text.proofs.Rooms.{completing_none, completing_same, completing_more}
+use Rattle.scenario_text.proofs.Rooms.{SameCounts, OneMore, completing_none, completing_same}
 use Rattle.scenario_text.proofs.Standing.{AreFilled, room_at}
 
 -- a queue of which no more is known
@@ -38,38 +39,30 @@ filled_cq d queues l u same room all c x there = ⊎_elim before last (push_get 
 pub filled_qps : (d : Lines) (queues : List QueueUse) (qps : List QpLine) → AreFilled d queues [] → AreFilled (record d { qps = qps }) queues []
 filled_qps d queues qps all c x there = omega (arith, all c x there, completing_none c FIRST_QP d.qps, completing_none c FIRST_QP qps)
 
-pub filled_same : (d : Lines) (queues : List QueueUse) (before now : List (List Call)) → ((k : ℕ) → posted_on k now ≡ posted_on k before) → AreFilled d queues before → AreFilled d queues now
-filled_same d queues before now same all c x there =
-    ap (λ n. room_at queues c + n) (completing_same c FIRST_QP d.qps before now (λ k le. same k)) ∙ all c x there
+pub filled_same : (d : Lines) (queues : List QueueUse) (before now : List (List Call)) → SameCounts before now → AreFilled d queues before → AreFilled d queues now
+filled_same d queues before now same all c x there = ap (λ n. room_at queues c + n) (completing_same c FIRST_QP d.qps before now same) ∙ all c x there
 
 -- what is polled makes no difference
 pub filled_rooms : (d : Lines) (queues queues_now : List QueueUse) (programs : List (List Call)) → ((c : ℕ) → room_at queues_now c ≡ room_at queues c) → AreFilled d queues programs
     → AreFilled d queues_now programs
 filled_rooms d queues queues_now programs same all c x there = ap (λ n. n + completing_into c FIRST_QP d.qps programs) (same c) ∙ all c x there
 
--- one more request takes the room of one
-pub filled_more : (d : Lines) (queues : List QueueUse) (before now : List (List Call)) (qp : ℕ) (l : QpLine) → length queues ≡ length d.cqs → FIRST_QP ≤ qp
-    → slice_get d.qps (qp - FIRST_QP) ≡ Some l → 0 < room_at queues l.send_cq → ((k : ℕ) → posted_on k now ≡ posted_on k before + cond (qp == k) 1 0) → AreFilled d queues before
-    → AreFilled d (change fuller queues l.send_cq) now
-filled_more d queues before now qp l same_length from pair room more all c x there = ⊎_elim here other (cases_eq c l.send_cq)
+-- one more request or receive takes the room of one
+pub filled_more : (d : Lines) (queues : List QueueUse) (before now : List (List Call)) (queue : ℕ) → length queues ≡ length d.cqs → 0 < room_at queues queue → OneMore d.qps FIRST_QP before now queue
+    → AreFilled d queues before → AreFilled d (change fuller queues queue) now
+filled_more d queues before now queue same_length room one all c x there = ⊎_elim here other (cases_eq c queue)
   where
-    place : FIRST_QP + (qp - FIRST_QP) ≡ qp
-    place = omega (arith, from)
-
-    completes : completing_into c FIRST_QP d.qps now ≡ completing_into c FIRST_QP d.qps before + cond (l.send_cq == c) 1 0
-    completes = completing_more c FIRST_QP (qp - FIRST_QP) d.qps l before now pair (λ k. more k ∙ ap (λ n. posted_on k before + cond (n == k) 1 0) (sym place))
-
-    here : c ≡ l.send_cq → room_at (change fuller queues l.send_cq) c + completing_into c FIRST_QP d.qps now ≡ 2 ^ x.log
+    here : c ≡ queue → room_at (change fuller queues queue) c + completing_into c FIRST_QP d.qps now ≡ 2 ^ x.log
     here same =
-        let below : l.send_cq < length queues = omega (arith, slice_get_within d.cqs c x there, same_length, same) in
-        let less : room_at (change fuller queues l.send_cq) l.send_cq ≡ room_at queues l.send_cq - 1 = ap (λ (u : QueueUse). u.room) (change_here fuller unused queues l.send_cq below) in
-        let now_room : room_at (change fuller queues l.send_cq) c ≡ room_at (change fuller queues l.send_cq) l.send_cq = ap (room_at (change fuller queues l.send_cq)) same in
-        let was_room : room_at queues c ≡ room_at queues l.send_cq = ap (room_at queues) same in
-        let one : cond {A = ℕ} (l.send_cq == c) 1 0 ≡ 1 = ap (λ t. cond {A = ℕ} t 1 0) (eq-eqb l.send_cq c (sym same)) in
-        omega (arith, less, now_room, was_room, one, completes, room, all c x there)
+        let below : queue < length queues = omega (arith, slice_get_within d.cqs c x there, same_length, same) in
+        let less : room_at (change fuller queues queue) queue ≡ room_at queues queue - 1 = ap (λ (u : QueueUse). u.room) (change_here fuller unused queues queue below) in
+        let now_room : room_at (change fuller queues queue) c ≡ room_at (change fuller queues queue) queue = ap (room_at (change fuller queues queue)) same in
+        let was_room : room_at queues c ≡ room_at queues queue = ap (room_at queues) same in
+        let taken : cond {A = ℕ} (queue == c) 1 0 ≡ 1 = ap (λ t. cond {A = ℕ} t 1 0) (eq-eqb queue c (sym same)) in
+        omega (arith, less, now_room, was_room, taken, one.more c, room, all c x there)
 
-    other : (c ≡ l.send_cq → ⊥) → room_at (change fuller queues l.send_cq) c + completing_into c FIRST_QP d.qps now ≡ 2 ^ x.log
+    other : (c ≡ queue → ⊥) → room_at (change fuller queues queue) c + completing_into c FIRST_QP d.qps now ≡ 2 ^ x.log
     other apart =
-        let stays : room_at (change fuller queues l.send_cq) c ≡ room_at queues c = ap (λ (u : QueueUse). u.room) (change_other fuller unused queues l.send_cq c apart) in
-        let none : cond {A = ℕ} (l.send_cq == c) 1 0 ≡ 0 = ap (λ t. cond {A = ℕ} t 1 0) (ne_eqb l.send_cq c (λ e. apart (sym e))) in
-        omega (arith, stays, none, completes, all c x there)
+        let stays : room_at (change fuller queues queue) c ≡ room_at queues c = ap (λ (u : QueueUse). u.room) (change_other fuller unused queues queue c apart) in
+        let none : cond {A = ℕ} (queue == c) 1 0 ≡ 0 = ap (λ t. cond {A = ℕ} t 1 0) (ne_eqb queue c (λ e. apart (sym e))) in
+        omega (arith, stays, none, one.more c, all c x there)

@@ -5,6 +5,8 @@ pub mod Dropping
 pub mod Standing
 pub mod Asked
 pub mod Within
+pub mod Keys
+pub mod Receiving
 pub mod Growing
 pub mod Declaring
 pub mod Objects
@@ -17,6 +19,7 @@ pub mod DeclaringLines
 pub mod ThreadLines
 pub mod Calling
 pub mod CallLines
+pub mod ItemLines
 pub mod PlanLines
 pub mod Ends
 pub mod OutsideLines
@@ -26,6 +29,7 @@ pub mod ByLine
 pub mod AllLines
 pub mod Numbers
 pub mod Events
+pub mod Noting
 pub mod Reading
 pub mod Small
 pub mod Naming

@@ -52,7 +52,7 @@ object_stands s d names pairs queues o h = record {
   pairs = o.pairs_counted;
   queues = o.queues_counted;
   finished = subst (λ (ps : List (List Call)). All (IsProgram d) ps) (sym finished) (All-nil (IsProgram d));
-  opened = subst (λ p. IsOpen d p s.calls s.requests) (sym o.outside) (subst (λ p. IsOpen s.lines p s.calls s.requests) o.outside h.opened);
+  opened = subst (λ p. IsOpen d p s.calls s.requests s.receives) (sym o.outside) (subst (λ p. IsOpen s.lines p s.calls s.requests s.receives) o.outside h.opened);
   paired = h.paired ∙ sym (ap (λ (ts : List (List ℕ)). length ts) o.threads);
   held = subst (AreHeld pairs queues) (sym o.none) (none_held pairs queues);
   filled = subst (AreFilled d queues) (sym o.none) o.filled;
@@ -61,7 +61,7 @@ object_stands s d names pairs queues o h = record {
 }
   where
     finished : s.programs ≡ []
-    finished = subst (λ p. shown_in p s.programs s.calls s.requests ≡ []) o.outside o.none
+    finished = subst (λ p. shown_in p s.programs s.calls s.requests s.receives ≡ []) o.outside o.none
 
 pub filled_early : (s : Said) → shown s ≡ [] → Stands s → AreFilled s.lines s.queues []
 filled_early s none h = subst (AreFilled s.lines s.queues) none h.filled

@@ -2,7 +2,6 @@
 use Rattle.std.proofs.Common.{◌≡◌, ℕ, ◌+◌, ◌≤◌, List, [], ◌∷◌, ◌++◌, length, IsTrue, sym, arith}
 use Rattle.std.proofs.lemmas.Bool.{and_parts, and_from, leb-true, le-leb, eqb-true, eq-eqb}
 use Rattle.std.proofs.lemmas.List.{length_push}
-use Rattle.std.proofs.lemmas.List.Elements.{All-push}
 use Rattle.verbs_model.specs.Lines.{are_few, are_in_turn, is_eq_line, is_cq_line, is_qp_line, is_connect_line}
 use Rattle.verbs_model.specs.declared.declaration.Connect.{Connect}
 use Rattle.verbs_model.specs.declared.declaration.CqLine.{CqLine}
@@ -12,8 +11,6 @@ use Rattle.verbs_model.specs.declared.declaration.Object.TheVariants as objects
 use Rattle.verbs_model.specs.declared.declaration.PdLine.{PdLine}
 use Rattle.verbs_model.specs.declared.declaration.QpLine.{QpLine}
 use Rattle.verbs_model.specs.declared.declaration.TheConstants.{FIRST_PD, FIRST_QP}
-use Rattle.scenario_text.specs.Calls.{StartsAtZero}
-use Rattle.scenario_text.specs.Running.{CountsFromZero}
 use Rattle.scenario_text.proofs.Declaring.{with_eq, with_pd, with_cq, with_qp, with_connect, with_thread, more_eq, more_pd, more_cq, more_qp, more_connect, cq_line_more, qp_line_more, connect_line_more, turn_more}
 use Rattle.scenario_text.proofs.Growing.{all_weaker, all_push}
 use Rattle.scenario_text.proofs.Standing.{AreDeclared}
@@ -64,8 +61,6 @@ module _ (d : Lines) (h : AreDeclared d) where
     cqs = all_weaker _ _ (cq_line_more d (with_eq d l) (more_eq d l)) d.cqs h.cqs;
     qps = all_weaker _ _ (qp_line_more d (with_eq d l) (more_eq d l)) d.qps h.qps;
     connects = all_weaker _ _ (connect_line_more d (with_eq d l) (more_eq d l)) d.connects h.connects;
-    completions = h.completions;
-    pairs = h.pairs;
     threads = h.threads;
   }
     where
@@ -82,8 +77,6 @@ module _ (d : Lines) (h : AreDeclared d) where
     cqs = all_weaker _ _ (cq_line_more d (with_pd d l) (more_pd d l)) d.cqs h.cqs;
     qps = all_weaker _ _ (qp_line_more d (with_pd d l) (more_pd d l)) d.qps h.qps;
     connects = all_weaker _ _ (connect_line_more d (with_pd d l) (more_pd d l)) d.connects h.connects;
-    completions = h.completions;
-    pairs = h.pairs;
     threads = h.threads;
   }
     where
@@ -92,16 +85,14 @@ module _ (d : Lines) (h : AreDeclared d) where
           let n : AreNext d e p c q = next_parts d e p c q t in
           and_from _ _ (eq-eqb _ _ (sym n.pd)) (next_from (with_pd d l) e (p + 1) c q (record { eq = n.eq; pd = omega (arith, length_push d.pds l, n.pd); cq = n.cq; qp = n.qp }))
 
-  pub declared_cq : (l : CqLine) → length d.cqs + 1 ≤ 32 → IsTrue (is_cq_line d l) → l.start ≡ 0 → AreDeclared (with_cq d l)
-  declared_cq l room line start = record {
+  pub declared_cq : (l : CqLine) → length d.cqs + 1 ≤ 32 → IsTrue (is_cq_line d l) → AreDeclared (with_cq d l)
+  declared_cq l room line = record {
     few = few_from (with_cq d l) (record { eqs = few.eqs; pds = few.pds; cqs = omega (arith, length_push d.cqs l); qps = few.qps });
     turn = turn_more d (with_cq d l) (objects.Cq (length d.cqs)) last d.order 0 FIRST_PD 0 FIRST_QP h.turn;
     eqs = h.eqs;
     cqs = all_weaker _ _ (cq_line_more d (with_cq d l) (more_cq d l)) (d.cqs ++ l ∷ []) (all_push (is_cq_line d) d.cqs l h.cqs line);
     qps = all_weaker _ _ (qp_line_more d (with_cq d l) (more_cq d l)) d.qps h.qps;
     connects = all_weaker _ _ (connect_line_more d (with_cq d l) (more_cq d l)) d.connects h.connects;
-    completions = All-push StartsAtZero d.cqs l h.completions start;
-    pairs = h.pairs;
     threads = h.threads;
   }
     where
@@ -110,16 +101,14 @@ module _ (d : Lines) (h : AreDeclared d) where
           let n : AreNext d e p c q = next_parts d e p c q t in
           and_from _ _ (eq-eqb _ _ (sym n.cq)) (next_from (with_cq d l) e p (c + 1) q (record { eq = n.eq; pd = n.pd; cq = omega (arith, length_push d.cqs l, n.cq); qp = n.qp }))
 
-  pub declared_qp : (l : QpLine) → length d.qps + 1 ≤ 64 → IsTrue (is_qp_line d l) → l.start ≡ 0 → AreDeclared (with_qp d l)
-  declared_qp l room line start = record {
+  pub declared_qp : (l : QpLine) → length d.qps + 1 ≤ 64 → IsTrue (is_qp_line d l) → AreDeclared (with_qp d l)
+  declared_qp l room line = record {
     few = few_from (with_qp d l) (record { eqs = few.eqs; pds = few.pds; cqs = few.cqs; qps = omega (arith, length_push d.qps l) });
     turn = turn_more d (with_qp d l) (objects.Qp (FIRST_QP + length d.qps)) last d.order 0 FIRST_PD 0 FIRST_QP h.turn;
     eqs = h.eqs;
     cqs = all_weaker _ _ (cq_line_more d (with_qp d l) (more_qp d l)) d.cqs h.cqs;
     qps = all_weaker _ _ (qp_line_more d (with_qp d l) (more_qp d l)) (d.qps ++ l ∷ []) (all_push (is_qp_line d) d.qps l h.qps line);
     connects = all_weaker _ _ (connect_line_more d (with_qp d l) (more_qp d l)) d.connects h.connects;
-    completions = h.completions;
-    pairs = All-push CountsFromZero d.qps l h.pairs start;
     threads = h.threads;
   }
     where
@@ -136,8 +125,6 @@ module _ (d : Lines) (h : AreDeclared d) where
     cqs = all_weaker _ _ (cq_line_more d (with_connect d l) (more_connect d l)) d.cqs h.cqs;
     qps = all_weaker _ _ (qp_line_more d (with_connect d l) (more_connect d l)) d.qps h.qps;
     connects = all_weaker _ _ (connect_line_more d (with_connect d l) (more_connect d l)) (d.connects ++ l ∷ []) (all_push (is_connect_line d) d.connects l h.connects line);
-    completions = h.completions;
-    pairs = h.pairs;
     threads = h.threads;
   }
 
@@ -149,7 +136,5 @@ module _ (d : Lines) (h : AreDeclared d) where
     cqs = h.cqs;
     qps = h.qps;
     connects = h.connects;
-    completions = h.completions;
-    pairs = h.pairs;
     threads = omega (arith, length_push d.threads name);
   }

@@ -4,7 +4,8 @@ use Rattle.std.specs.List.{list_all}
 use Rattle.std.proofs.lemmas.List.Elements.{All-nil, All-map, All-weaker}
 use Rattle.std.proofs.lemmas.List.Sums.{AllPass-from_list_all}
 use Rattle.scenario_text.specs.After.{plan_item, add_schedule, add_rounds}
-use Rattle.scenario_text.specs.Rules.{is_known, named}
+use Rattle.scenario_text.specs.Rules.{is_known}
+use Rattle.scenario_text.specs.Uses.{named}
 use Rattle.scenario_text.specs.Running.{IsActorOf}
 use Rattle.scenario_text.specs.Slots.{actor_part}
 use Rattle.scenario_text.specs.Sofar.{Said}

@@ -12,7 +12,10 @@ use Rattle.scenario_text.specs.declared.fault.LimitName.TheVariants.{Text}
 use Rattle.scenario_text.specs.declared.fault.ScenarioFault.TheVariants.{Malformed, Limit, NoMemory}
 use Rattle.scenario_text.specs.declared.fault.TextRule.{TextRule}
 use Rattle.scenario_text.specs.declared.fault.TextRule.TheVariants.{Missing}
+use Rattle.scenario_text.proofs.AllLines.{nothing_kept}
+use Rattle.scenario_text.proofs.ByLine.{after_kept}
 use Rattle.scenario_text.proofs.Small.{small_after, count_after}
+use Rattle.scenario_text.proofs.Standing.{Kept}
 
 -- there is a first part
 pub record HasFirst (parts : List (List ℕ)) : Type 0 where
@@ -64,8 +67,9 @@ pub last_unended : (s : Said) (line : List ℕ) (parts : List (List ℕ)) → 0 
 last_unended s [] parts some is good = absurd (omega (arith, some))
 last_unended s (b ∷ bs) parts some is good = ap (reading_from s) is ∙ ap (λ fault. after_fault fault (s.count + 1) (broken (s.count + 1) Missing)) good
 
--- so far the lines say what the text says, and what is left of it says the rest
+-- so far the lines say what the text says and keep what holds, and what is left of it says the rest
 pub record Reads (text : List ℕ) (s : Said) (rest : List ℕ) : Type 0 where
+  pub kept : Kept s
   pub small : IsSmall s
   pub few : s.count + length rest ≤ 4194304
   pub says : reading_from s (split 10 rest) ≡ reading text
@@ -76,6 +80,7 @@ short true text e h = absurd (grind (arith, nat_tests))
 
 pub reads_first : (text : List ℕ) (s : Said) → s ≡ nothing_said → length text ≤ 4194304 → Reads text s text
 reads_first text s is few = subst (λ (t : Said). Reads text t text) (sym is) (record {
+  kept = nothing_kept;
   small = record { count = omega arith; eqs = omega arith; pds = omega arith; cqs = omega arith; qps = omega arith; threads = omega arith };
   few = omega (arith, few);
   says = short (nat_lt 4194304 (length text)) text refl few;
@@ -84,6 +89,7 @@ reads_first text s is few = subst (λ (t : Said). Reads text t text) (sym is) (r
 pub reads_next : (text rest line after : List ℕ) (s now : Said) → Reads text s rest → fault_of s line ≡ None → split 10 rest ≡ line ∷ split 10 after → length after < length rest → now ≡ after_line s line
     → Reads text now after
 reads_next text rest line after s now h good is shorter next = subst (λ (t : Said). Reads text t after) (sym next) (record {
+  kept = after_kept s line good h.kept;
   small = small_after s line (omega (arith, h.few, shorter)) h.small;
   few = omega (arith, h.few, shorter, count_after s line);
   says = sym (goes_on s line after (split 10 rest) is good) ∙ h.says;

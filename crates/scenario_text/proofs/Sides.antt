@@ -7,12 +7,12 @@ use Rattle.std.proofs.lemmas.Option.{same_Some}
 use Rattle.verbs_model.specs.declared.call.Call.{Call}
 use Rattle.verbs_model.specs.declared.call.Call.TheVariants.{Post, Recv, Poll, Drain}
 use Rattle.verbs_model.specs.declared.declaration.TheConstants.{FIRST_QP}
-use Rattle.scenario_text.specs.After.{change}
-use Rattle.scenario_text.specs.Calls.{IsOfOneThread, posts_on, polls_on}
+use Rattle.scenario_text.specs.AfterObjects.{change}
+use Rattle.scenario_text.specs.Calls.{IsOfOneThread, posts_on, receives_on, polls_on}
 use Rattle.scenario_text.specs.declared.sofar.PairUse.{PairUse}
 use Rattle.scenario_text.specs.declared.sofar.QueueUse.{QueueUse}
 use Rattle.scenario_text.proofs.Growing.{change_here, change_other}
-use Rattle.scenario_text.proofs.Standing.{IsHeld, Each, poster_at, poller_at}
+use Rattle.scenario_text.proofs.Standing.{IsHeld, Each, poster_at, receiver_at, poller_at}
 
 -- a side that is free, or this thread's, becomes this thread's; all others stay
 module _ {X : Type 0} (by : X → X) (none : X) (side : X → Option ℕ) (this : ℕ) (taken : (x : X) → side (by x) ≡ Some this) (xs : List X) (n : ℕ) (below : n < length xs) where
@@ -32,12 +32,13 @@ module _ {X : Type 0} (by : X → X) (none : X) (side : X → Option ℕ) (this 
 -- no side is lost
 pub record KeepSides (pairs pairs_now : List PairUse) (queues queues_now : List QueueUse) : Type 0 where
   pub posters : (k thread : ℕ) → poster_at pairs k ≡ Some thread → poster_at pairs_now k ≡ Some thread
+  pub receivers : (k thread : ℕ) → receiver_at pairs k ≡ Some thread → receiver_at pairs_now k ≡ Some thread
   pub pollers : (k thread : ℕ) → poller_at queues k ≡ Some thread → poller_at queues_now k ≡ Some thread
 
 pub held_kept : (pairs pairs_now : List PairUse) (queues queues_now : List QueueUse) → KeepSides pairs pairs_now queues queues_now → (thread : ℕ) (call : Call) → IsHeld pairs queues thread call
     → IsHeld pairs_now queues_now thread call
 held_kept pairs pairs_now queues queues_now keep thread (Post qp requests) h = keep.posters (qp - FIRST_QP) thread h
-held_kept pairs pairs_now queues queues_now keep thread (Recv qp receives) h = absurd h
+held_kept pairs pairs_now queues queues_now keep thread (Recv qp receives) h = keep.receivers (qp - FIRST_QP) thread h
 held_kept pairs pairs_now queues queues_now keep thread (Poll cq most) h = keep.pollers cq thread h
 held_kept pairs pairs_now queues queues_now keep thread (Drain cq count) h = keep.pollers cq thread h
 
@@ -50,7 +51,18 @@ module _ (pairs : List PairUse) (queues : List QueueUse) (thread : ℕ) where
     where
       here : (call : Call) → IsHeld pairs queues thread call → IsTrue (posts_on q call) → poster_at pairs (q - FIRST_QP) ≡ Some thread
       here (Post qp requests) held on = ap (λ k. poster_at pairs (k - FIRST_QP)) (sym (eqb-true qp q on)) ∙ held
-      here (Recv qp receives) held on = absurd held
+      here (Recv qp receives) held on = absurd (true≢false (sym on))
+      here (Poll cq most) held on = absurd (true≢false (sym on))
+      here (Drain cq count) held on = absurd (true≢false (sym on))
+
+  pub receives_held : (q : ℕ) (calls : List Call) → All (IsHeld pairs queues thread) calls → IsTrue (list_any (receives_on q) calls) → receiver_at pairs (q - FIRST_QP) ≡ Some thread
+  receives_held q [] all h = absurd (true≢false (sym h))
+  receives_held q (c ∷ cs) all h =
+      ⊎_elim (here c (All-head (IsHeld pairs queues thread) c cs all)) (receives_held q cs (All-tail (IsHeld pairs queues thread) c cs all)) (or_cases (receives_on q c) (list_any (receives_on q) cs) h)
+    where
+      here : (call : Call) → IsHeld pairs queues thread call → IsTrue (receives_on q call) → receiver_at pairs (q - FIRST_QP) ≡ Some thread
+      here (Post qp requests) held on = absurd (true≢false (sym on))
+      here (Recv qp receives) held on = ap (λ k. receiver_at pairs (k - FIRST_QP)) (sym (eqb-true qp q on)) ∙ held
       here (Poll cq most) held on = absurd (true≢false (sym on))
       here (Drain cq count) held on = absurd (true≢false (sym on))
 
@@ -61,7 +73,7 @@ module _ (pairs : List PairUse) (queues : List QueueUse) (thread : ℕ) where
     where
       here : (call : Call) → IsHeld pairs queues thread call → IsTrue (polls_on q call) → poller_at queues q ≡ Some thread
       here (Post qp requests) held on = absurd (true≢false (sym on))
-      here (Recv qp receives) held on = absurd held
+      here (Recv qp receives) held on = absurd (true≢false (sym on))
       here (Poll cq most) held on = ap (poller_at queues) (sym (eqb-true cq q on)) ∙ held
       here (Drain cq count) held on = ap (poller_at queues) (sym (eqb-true cq q on)) ∙ held
 

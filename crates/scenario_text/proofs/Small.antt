@@ -1,14 +1,16 @@
 -- No list is longer than the text.
 use Rattle.std.proofs.Common.{◌≡◌, ℕ, ◌+◌, ◌<◌, ◌≤◌, Bool, true, false, cond, List, [], ◌∷◌, ◌++◌, length, length-append, Option, Some, None, refl, ap, arith}
 use Rattle.verbs_model.specs.declared.declaration.Lines.{Lines}
-use Rattle.scenario_text.specs.After.{after_line, add_line, add_known, close_place, count_line, note_limits, take_room}
-use Rattle.scenario_text.specs.Keywords.{keyword_of}
+use Rattle.scenario_text.specs.After.{after_line, add_line, add_known, count_line, note_limits}
+use Rattle.scenario_text.specs.AfterCalls.{close_place, take_room_of}
+use Rattle.scenario_text.specs.Keywords.{keyword_in}
 use Rattle.scenario_text.specs.Sofar.{Said, IsSmall}
+use Rattle.scenario_text.specs.Uses.{list_cq}
 use Rattle.scenario_text.specs.Text.{Line, split, part_at, is_skipped}
 use Rattle.scenario_text.specs.declared.keyword.Keyword.{Keyword}
-use Rattle.scenario_text.specs.declared.keyword.Keyword.TheVariants.{Eq, Pd, Cq, Qp, Connect, Thread, End, Post, Item, Poll, Drain, Schedule, Rounds}
+use Rattle.scenario_text.specs.declared.keyword.Keyword.TheVariants.{Eq, Pd, Cq, Qp, Connect, Thread, End, Post, Item, Recv, Receive, Poll, Drain, Schedule, Rounds}
 use Rattle.scenario_text.specs.declared.sofar.Place.{Place}
-use Rattle.scenario_text.specs.declared.sofar.Place.TheVariants.{Outside, InThread, InPost}
+use Rattle.scenario_text.specs.declared.sofar.Place.TheVariants.{Outside, InThread, InPost, InRecv}
 
 -- one line less was counted than there is room for
 record Fits (s now : Said) : Type 0 where
@@ -33,21 +35,21 @@ closed_count : (p : Place) (s : Said) → (close_place p s).count ≡ s.count
 closed_count Outside s = refl
 closed_count InThread s = refl
 closed_count (InPost qp) s = refl
+closed_count (InRecv qp) s = refl
 
 closed_lines : (p : Place) (s : Said) → (close_place p s).lines ≡ s.lines
 closed_lines Outside s = refl
 closed_lines InThread s = refl
 closed_lines (InPost qp) s = refl
+closed_lines (InRecv qp) s = refl
 
-filled_count : (p : Place) (s : Said) → (take_room p s).count ≡ s.count
-filled_count Outside s = refl
-filled_count InThread s = refl
-filled_count (InPost qp) s = refl
+filled_count : (o : Option ℕ) (s : Said) → (take_room_of o s).count ≡ s.count
+filled_count None s = refl
+filled_count (Some cq) s = refl
 
-filled_lines : (p : Place) (s : Said) → (take_room p s).lines ≡ s.lines
-filled_lines Outside s = refl
-filled_lines InThread s = refl
-filled_lines (InPost qp) s = refl
+filled_lines : (o : Option ℕ) (s : Said) → (take_room_of o s).lines ≡ s.lines
+filled_lines None s = refl
+filled_lines (Some cq) s = refl
 
 one_more : {A : Type 0} (xs : List A) (x : A) → length (xs ++ x ∷ []) ≤ length xs + 1
 one_more xs x = omega (arith, length-append xs (x ∷ []))
@@ -61,7 +63,9 @@ line_fits Connect line s = record { count = refl; eqs = omega arith; pds = omega
 line_fits Thread line s = record { count = refl; eqs = omega arith; pds = omega arith; cqs = omega arith; qps = omega arith; threads = one_more s.lines.threads _ }
 line_fits End line s = same s (add_line End line s) (closed_count s.place s) (closed_lines s.place s)
 line_fits Post line s = same s (add_line Post line s) (closed_count s.place s) (closed_lines s.place s)
-line_fits Item line s = same s (add_line Item line s) (filled_count s.place (note_limits Item line s)) (filled_lines s.place (note_limits Item line s))
+line_fits Item line s = same s (add_line Item line s) (filled_count (list_cq s) (note_limits Item line s)) (filled_lines (list_cq s) (note_limits Item line s))
+line_fits Recv line s = same s (add_line Recv line s) (closed_count s.place s) (closed_lines s.place s)
+line_fits Receive line s = same s (add_line Receive line s) (filled_count (list_cq s) (note_limits Receive line s)) (filled_lines (list_cq s) (note_limits Receive line s))
 line_fits Poll line s = same s (add_line Poll line s) (closed_count s.place s) (closed_lines s.place s)
 line_fits Drain line s = same s (add_line Drain line s) (closed_count s.place s) (closed_lines s.place s)
 line_fits Schedule line s = same s (add_line Schedule line s) refl refl
@@ -77,7 +81,7 @@ after_fits false keyword line s = known_fits keyword line s
 
 pub small_after : (s : Said) (bytes : List ℕ) → s.count < 4194304 → IsSmall s → IsSmall (after_line s bytes)
 small_after s bytes left h =
-    let f : Fits (count_line s) (after_line s bytes) = after_fits (is_skipped bytes) (keyword_of (part_at (split 32 bytes) 0)) (split 32 bytes) (count_line s) in
+    let f : Fits (count_line s) (after_line s bytes) = after_fits (is_skipped bytes) (keyword_in s.place (part_at (split 32 bytes) 0)) (split 32 bytes) (count_line s) in
     record {
       count = omega (arith, f.count);
       eqs = omega (arith, f.count, f.eqs, h.eqs);
@@ -88,4 +92,4 @@ small_after s bytes left h =
     }
 
 pub count_after : (s : Said) (bytes : List ℕ) → (after_line s bytes).count ≡ s.count + 1
-count_after s bytes = (after_fits (is_skipped bytes) (keyword_of (part_at (split 32 bytes) 0)) (split 32 bytes) (count_line s)).count
+count_after s bytes = (after_fits (is_skipped bytes) (keyword_in s.place (part_at (split 32 bytes) 0)) (split 32 bytes) (count_line s)).count

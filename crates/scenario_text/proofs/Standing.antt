@@ -9,12 +9,13 @@ use Rattle.verbs_model.specs.declared.declaration.CqLine.{CqLine}
 use Rattle.verbs_model.specs.declared.declaration.Lines.{Lines}
 use Rattle.verbs_model.specs.declared.declaration.Object.TheVariants as objects
 use Rattle.verbs_model.specs.declared.declaration.TheConstants.{FIRST_PD, FIRST_QP}
+use Rattle.verbs_model.specs.declared.request.Receive.{Receive}
 use Rattle.verbs_model.specs.declared.request.Request.{Request}
-use Rattle.scenario_text.specs.Calls.{StartsAtZero, IsPlainNop, IsCall, IsProgram}
+use Rattle.scenario_text.specs.Calls.{CanReceive, IsPlainNop, IsCall, IsProgram, segments_of}
 use Rattle.scenario_text.specs.Keywords.{place_of}
 use Rattle.scenario_text.specs.Limits.{completing_into}
 use Rattle.scenario_text.specs.Naming.{Entry}
-use Rattle.scenario_text.specs.Running.{CountsFromZero, IsActorOf, items_of_plan}
+use Rattle.scenario_text.specs.Running.{IsActorOf, items_of_plan}
 use Rattle.scenario_text.specs.Sofar.{Said}
 use Rattle.scenario_text.specs.declared.keyword.Section.{Section}
 use Rattle.scenario_text.specs.declared.names.Meaning.{Meaning}
@@ -24,7 +25,7 @@ use Rattle.scenario_text.specs.declared.slot.Kind.{Kind}
 use Rattle.scenario_text.specs.declared.slot.Kind.TheVariants as kinds
 use Rattle.scenario_text.specs.declared.sofar.PairUse.{PairUse}
 use Rattle.scenario_text.specs.declared.sofar.Place.{Place}
-use Rattle.scenario_text.specs.declared.sofar.Place.TheVariants.{Outside, InThread, InPost}
+use Rattle.scenario_text.specs.declared.sofar.Place.TheVariants.{Outside, InThread, InPost, InRecv}
 use Rattle.scenario_text.specs.declared.sofar.QueueUse.{QueueUse}
 
 -- the lines before the threads are of the grammar, and few threads are named
@@ -35,8 +36,6 @@ pub record AreDeclared (d : Lines) : Type 0 where
   pub cqs : IsTrue (list_all (is_cq_line d) d.cqs)
   pub qps : IsTrue (list_all (is_qp_line d) d.qps)
   pub connects : IsTrue (list_all (is_connect_line d) d.connects)
-  pub completions : All StartsAtZero d.cqs
-  pub pairs : All CountsFromZero d.qps
   pub threads : length d.threads ≤ 16
 
 -- there is an object or an actor of the kind with this number
@@ -60,13 +59,14 @@ abbrev pub AllThere : Lines → List Entry → Type 0
 AllThere d names = All (λ (e : Entry). IsThere d e.meaning) names
 
 -- the calls of all threads, those of the thread and of the post in which the next line stands too
-abbrev pub shown_in : Place → List (List Call) → List Call → List Request → List (List Call)
-shown_in Outside programs program requests = programs
-shown_in InThread programs program requests = programs ++ program ∷ []
-shown_in (InPost qp) programs program requests = programs ++ (program ++ calls.Post qp requests ∷ []) ∷ []
+abbrev pub shown_in : Place → List (List Call) → List Call → List Request → List Receive → List (List Call)
+shown_in Outside programs program requests receives = programs
+shown_in InThread programs program requests receives = programs ++ program ∷ []
+shown_in (InPost qp) programs program requests receives = programs ++ (program ++ calls.Post qp requests ∷ []) ∷ []
+shown_in (InRecv qp) programs program requests receives = programs ++ (program ++ calls.Recv qp receives ∷ []) ∷ []
 
 abbrev pub shown : Said → List (List Call)
-shown s = shown_in s.place s.programs s.calls s.requests
+shown s = shown_in s.place s.programs s.calls s.requests s.receives
 
 -- a post whose requests follow
 pub record IsPost (d : Lines) (qp : ℕ) (requests : List Request) : Type 0 where
@@ -74,15 +74,25 @@ pub record IsPost (d : Lines) (qp : ℕ) (requests : List Request) : Type 0 wher
   pub few : length requests ≤ 16
   pub plain : All IsPlainNop requests
 
+-- the same of receives
+pub record IsRecv (d : Lines) (qp : ℕ) (receives : List Receive) : Type 0 where
+  pub there : IsTrue (is_among FIRST_QP (length d.qps) qp)
+  pub few : length receives ≤ 16
+  pub right : All (CanReceive (segments_of d qp)) receives
+
 -- the thread and the post in which the next line stands
-abbrev pub IsOpen : Lines → Place → List Call → List Request → Type 0
-IsOpen d Outside program requests = (program ≡ []) × (requests ≡ [])
-IsOpen d InThread program requests = IsProgram d program × (requests ≡ [])
-IsOpen d (InPost qp) program requests = (length program < 65536) × All (IsCall d) program × IsPost d qp requests
+abbrev pub IsOpen : Lines → Place → List Call → List Request → List Receive → Type 0
+IsOpen d Outside program requests receives = (program ≡ []) × (requests ≡ []) × (receives ≡ [])
+IsOpen d InThread program requests receives = IsProgram d program × (requests ≡ []) × (receives ≡ [])
+IsOpen d (InPost qp) program requests receives = (length program < 65536) × All (IsCall d) program × IsPost d qp requests × (receives ≡ [])
+IsOpen d (InRecv qp) program requests receives = (length program < 65536) × All (IsCall d) program × (requests ≡ []) × IsRecv d qp receives
 
 -- how the queue pair and the queue at a place are used
 abbrev pub poster_at : List PairUse → ℕ → Option ℕ
-poster_at pairs place = (unwrap_or (slice_get pairs place) (record { connected = false; poster = None })).poster
+poster_at pairs place = (unwrap_or (slice_get pairs place) (record { connected = false; poster = None; receiver = None })).poster
+
+abbrev pub receiver_at : List PairUse → ℕ → Option ℕ
+receiver_at pairs place = (unwrap_or (slice_get pairs place) (record { connected = false; poster = None; receiver = None })).receiver
 
 abbrev pub poller_at : List QueueUse → ℕ → Option ℕ
 poller_at queues place = (unwrap_or (slice_get queues place) (record { poller = None; room = 0 })).poller
@@ -93,7 +103,7 @@ room_at queues place = (unwrap_or (slice_get queues place) (record { poller = No
 -- the thread with this number has the side of the queue that the call uses
 abbrev pub IsHeld : List PairUse → List QueueUse → ℕ → Call → Type 0
 IsHeld pairs queues thread (calls.Post qp requests) = poster_at pairs (qp - FIRST_QP) ≡ Some thread
-IsHeld pairs queues thread (calls.Recv qp receives) = ⊥
+IsHeld pairs queues thread (calls.Recv qp receives) = receiver_at pairs (qp - FIRST_QP) ≡ Some thread
 IsHeld pairs queues thread (calls.Poll cq most) = poller_at queues cq ≡ Some thread
 IsHeld pairs queues thread (calls.Drain cq count) = poller_at queues cq ≡ Some thread
 
@@ -124,7 +134,7 @@ pub record Stands (s : Said) : Type 0 where
   pub pairs : length s.pairs ≡ length s.lines.qps
   pub queues : length s.queues ≡ length s.lines.cqs
   pub finished : All (IsProgram s.lines) s.programs
-  pub opened : IsOpen s.lines s.place s.calls s.requests
+  pub opened : IsOpen s.lines s.place s.calls s.requests s.receives
   pub paired : length (shown s) ≡ length s.lines.threads
   pub held : AreHeld s.pairs s.queues (shown s)
   pub filled : AreFilled s.lines s.queues (shown s)

@@ -4,10 +4,11 @@ use Rattle.std.proofs.lemmas.List.{length_push}
 use Rattle.std.proofs.lemmas.List.Elements.{All-nil, All-push, All-weaker}
 use Rattle.std.proofs.lemmas.List.Sums.{sum_by_push}
 use Rattle.verbs_model.specs.declared.call.Call.{Call}
-use Rattle.scenario_text.specs.After.{name_in, add_thread, add_end}
+use Rattle.scenario_text.specs.Text.{name_in}
+use Rattle.scenario_text.specs.AfterCalls.{add_thread, add_end}
 use Rattle.scenario_text.specs.Calls.{IsCall, IsProgram}
 use Rattle.scenario_text.specs.Keywords.{place_of}
-use Rattle.scenario_text.specs.Limits.{posted_by, posted_on}
+use Rattle.scenario_text.specs.Limits.{posted_by, received_by}
 use Rattle.scenario_text.specs.Running.{IsActorOf, items_of_plan}
 use Rattle.scenario_text.specs.Sofar.{Said}
 use Rattle.scenario_text.specs.Text.{Line}
@@ -18,22 +19,26 @@ use Rattle.scenario_text.proofs.Filling.{filled_same}
 use Rattle.scenario_text.proofs.Growing.{each_push}
 use Rattle.scenario_text.proofs.Meanings.{all_there_push}
 use Rattle.scenario_text.proofs.Objects.{declared_thread}
+use Rattle.scenario_text.proofs.Rooms.{SameCounts}
 use Rattle.scenario_text.proofs.Standing.{AreHeld, AreFilled, AllHeld, IsHeld, IsOpen, Stands, shown, shown_in}
 
 -- a thread that calls nothing yet
 module _ (line : Line) (s : Said) (outside : s.place ≡ Outside) (h : Stands s) where
-  was_open : IsOpen s.lines Outside s.calls s.requests
-  was_open = subst (λ p. IsOpen s.lines p s.calls s.requests) outside h.opened
+  was_open : IsOpen s.lines Outside s.calls s.requests s.receives
+  was_open = subst (λ p. IsOpen s.lines p s.calls s.requests s.receives) outside h.opened
 
-  none_posted : (k : ℕ) → posted_on k (s.programs ++ s.calls ∷ []) ≡ posted_on k s.programs
-  none_posted k =
-      let all : posted_on k (s.programs ++ s.calls ∷ []) ≡ posted_on k s.programs + sum_by (posted_by k) s.calls = sum_by_push (λ (cs : List Call). sum_by (posted_by k) cs) s.programs s.calls in
-      let none : sum_by (posted_by k) s.calls ≡ 0 = ap (λ (cs : List Call). sum_by (posted_by k) cs) was_open.0 in
+  none_counted : (by : Call → ℕ) → sum_by (λ (cs : List Call). sum_by by cs) (s.programs ++ s.calls ∷ []) ≡ sum_by (λ (cs : List Call). sum_by by cs) s.programs
+  none_counted by =
+      let all : sum_by (λ (cs : List Call). sum_by by cs) (s.programs ++ s.calls ∷ []) ≡ sum_by (λ (cs : List Call). sum_by by cs) s.programs + sum_by by s.calls = sum_by_push (λ (cs : List Call). sum_by by cs) s.programs s.calls in
+      let none : sum_by by s.calls ≡ 0 = ap (λ (cs : List Call). sum_by by cs) was_open.0 in
       omega (arith, all, none)
+
+  none_posted : SameCounts s.programs (s.programs ++ s.calls ∷ [])
+  none_posted = record { posted = λ k. none_counted (posted_by k); received = λ k. none_counted (received_by k) }
 
   -- what is shown is what was finished
   shown_was : shown s ≡ s.programs
-  shown_was = ap (λ p. shown_in p s.programs s.calls s.requests) outside
+  shown_was = ap (λ p. shown_in p s.programs s.calls s.requests s.receives) outside
 
   pub thread_stands : length s.lines.threads + 1 ≤ 16 → 2 ≤ place_of s.section → Stands (add_thread line s)
   thread_stands few late = record {
@@ -45,6 +50,7 @@ module _ (line : Line) (s : Said) (outside : s.place ≡ Outside) (h : Stands s)
     opened = (
       subst (λ (cs : List Call). IsProgram (with_thread s.lines (name_in line)) cs) (sym was_open.0) (omega arith, All-nil (IsCall (with_thread s.lines (name_in line)))),
       was_open.1,
+      was_open.2,
     );
     paired = omega (arith, h.paired, ap (λ (ps : List (List Call)). length ps) shown_was, length_push s.programs s.calls, length_push s.lines.threads (name_in line));
     held = each_push (AllHeld s.pairs s.queues) s.programs s.calls (subst (AreHeld s.pairs s.queues) shown_was h.held)
@@ -62,7 +68,7 @@ end_stands s inside h = record {
   pairs = h.pairs;
   queues = h.queues;
   finished = All-push (IsProgram s.lines) s.programs s.calls h.finished was_open.0;
-  opened = (refl, was_open.1);
+  opened = (refl, was_open.1, was_open.2);
   paired = ap (λ (ps : List (List Call)). length ps) (sym shown_was) ∙ h.paired;
   held = subst (AreHeld s.pairs s.queues) shown_was h.held;
   filled = subst (AreFilled s.lines s.queues) shown_was h.filled;
@@ -70,8 +76,8 @@ end_stands s inside h = record {
   early = λ soon. sym shown_was ∙ h.early soon;
 }
   where
-    was_open : IsOpen s.lines InThread s.calls s.requests
-    was_open = subst (λ p. IsOpen s.lines p s.calls s.requests) inside h.opened
+    was_open : IsOpen s.lines InThread s.calls s.requests s.receives
+    was_open = subst (λ p. IsOpen s.lines p s.calls s.requests s.receives) inside h.opened
 
     shown_was : shown s ≡ s.programs ++ s.calls ∷ []
-    shown_was = ap (λ p. shown_in p s.programs s.calls s.requests) inside
+    shown_was = ap (λ p. shown_in p s.programs s.calls s.requests s.receives) inside

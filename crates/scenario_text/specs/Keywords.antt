@@ -3,12 +3,14 @@ use Rattle.std.specs.Prelude.{ℕ, List, [], ◌∷◌, codes, Option, None, Som
 use Rattle.std.specs.List.{list_any}
 use Rattle.scenario_text.specs.Text.{Field}
 use Rattle.scenario_text.specs.declared.keyword.Keyword.{Keyword}
-use Rattle.scenario_text.specs.declared.keyword.Keyword.TheVariants.{Eq, Pd, Cq, Qp, Connect, Thread, End, Post, Item, Poll, Drain, Schedule, Rounds}
+use Rattle.scenario_text.specs.declared.keyword.Keyword.TheVariants.{Eq, Pd, Cq, Qp, Connect, Thread, End, Post, Item, Recv, Receive, Poll, Drain, Schedule, Rounds}
 use Rattle.scenario_text.specs.declared.keyword.Section.{Section}
 use Rattle.scenario_text.specs.declared.keyword.Section.TheVariants as sections
 use Rattle.scenario_text.specs.declared.slot.Kind.TheVariants as kinds
 use Rattle.scenario_text.specs.declared.slot.Slot.{Slot}
-use Rattle.scenario_text.specs.declared.slot.Slot.TheVariants.{NewName, Name, Pair, Poster, Poller, Number, RecvLog, Operation, Flags, Turns}
+use Rattle.scenario_text.specs.declared.slot.Slot.TheVariants.{NewName, Name, Pair, Poster, Receiver, Poller, Number, RecvLog, Operation, Flags, Segment, Turns}
+use Rattle.scenario_text.specs.declared.sofar.Place.{Place}
+use Rattle.scenario_text.specs.declared.sofar.Place.TheVariants.{InRecv}
 
 abbrev pub keyword_of : Field → Option Keyword
 keyword_of field =
@@ -21,16 +23,26 @@ keyword_of field =
     else if bytes_eq field (codes "end") then Some End
     else if bytes_eq field (codes "post") then Some Post
     else if bytes_eq field (codes "+") then Some Item
+    else if bytes_eq field (codes "recv") then Some Recv
     else if bytes_eq field (codes "poll") then Some Poll
     else if bytes_eq field (codes "drain") then Some Drain
     else if bytes_eq field (codes "schedule") then Some Schedule
     else if bytes_eq field (codes "rounds") then Some Rounds
     else None
 
+-- a `+` begins a receive after `recv`
+abbrev pub in_place : Place → Option Keyword → Option Keyword
+in_place (InRecv qp) (Some Item) = Some Receive
+in_place _ keyword = keyword
+
+-- what a word begins where the next line stands
+abbrev pub keyword_in : Place → Field → Option Keyword
+keyword_in place field = in_place place (keyword_of field)
+
 -- the words of lines, and the operations of requests, that are not built yet
 abbrev pub later_words : List Field
 later_words =
-    codes "arena" ∷ codes "mr" ∷ codes "srq" ∷ codes "recv" ∷ codes "srqpost" ∷ codes "arm" ∷ codes "event" ∷ codes "await" ∷ codes "write" ∷ codes "read"
+    codes "arena" ∷ codes "mr" ∷ codes "srq" ∷ codes "srqpost" ∷ codes "arm" ∷ codes "event" ∷ codes "await" ∷ codes "write" ∷ codes "read"
     ∷ codes "reg" ∷ codes "dereg" ∷ codes "resize" ∷ codes "error" ∷ codes "destroy" ∷ codes "close" ∷ []
 
 abbrev pub later_operations : List Field
@@ -53,6 +65,8 @@ slots_of Thread = NewName ∷ []
 slots_of End = []
 slots_of Post = Poster ∷ []
 slots_of Item = Number ∷ Operation ∷ Flags ∷ []
+slots_of Recv = Receiver ∷ []
+slots_of Receive = Number ∷ []
 slots_of Poll = Poller ∷ Number ∷ []
 slots_of Drain = Poller ∷ Number ∷ []
 slots_of Schedule = Turns ∷ []
@@ -60,6 +74,7 @@ slots_of Rounds = Number ∷ []
 
 -- what may follow, any number of times
 abbrev pub more_of : Keyword → Option Slot
+more_of Receive = Some Segment
 more_of Schedule = Some Turns
 more_of _ = None
 
@@ -79,6 +94,7 @@ section_of _ = None
 abbrev pub is_of_thread : Keyword → Bool
 is_of_thread End = true
 is_of_thread Post = true
+is_of_thread Recv = true
 is_of_thread Poll = true
 is_of_thread Drain = true
 is_of_thread _ = false

@@ -6,12 +6,17 @@ pub mod Calls
 pub mod Running
 pub mod Faults
 pub mod Text
+pub mod Segments
 pub mod Naming
 pub mod Keywords
 pub mod Slots
 pub mod Sofar
+pub mod Uses
+pub mod Built
 pub mod Rules
 pub mod Bounds
+pub mod AfterObjects
+pub mod AfterCalls
 pub mod After
 pub mod Fitting
 pub mod Whole

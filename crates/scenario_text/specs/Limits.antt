@@ -44,7 +44,22 @@ posted_by q (Drain cq count) = 0
 abbrev pub posted_on : ℕ → List (List Call) → ℕ
 posted_on q programs = sum_by (λ (calls : List Call). sum_by (posted_by q) calls) programs
 
--- the requests on those of these queue pairs, numbered from q on, whose send queue completes into c
+-- the receives of a call on this queue pair
+abbrev pub received_by : ℕ → Call → ℕ
+received_by q (Post qp requests) = 0
+received_by q (Recv qp receives) = if qp == q then length receives else 0
+received_by q (Poll cq most) = 0
+received_by q (Drain cq count) = 0
+
+abbrev pub received_on : ℕ → List (List Call) → ℕ
+received_on q programs = sum_by (λ (calls : List Call). sum_by (received_by q) calls) programs
+
+-- the counts of those of these queue pairs, numbered from q on, of which a queue is that of completions c
+abbrev pub counted_into : (QpLine → ℕ) → (ℕ → ℕ) → ℕ → ℕ → List QpLine → ℕ
+counted_into queue count c q [] = 0
+counted_into queue count c q (l ∷ ls) = (if queue l == c then count q else 0) + counted_into queue count c (q + 1) ls
+
+-- the requests and receives on these queue pairs that complete into c
 abbrev pub completing_into : ℕ → ℕ → List QpLine → List (List Call) → ℕ
-completing_into c q [] programs = 0
-completing_into c q (l ∷ ls) programs = (if l.send_cq == c then posted_on q programs else 0) + completing_into c (q + 1) ls programs
+completing_into c q ls programs =
+    counted_into (λ (l : QpLine). l.send_cq) (λ k. posted_on k programs) c q ls + counted_into (λ (l : QpLine). l.recv_cq) (λ k. received_on k programs) c q ls

@@ -1,91 +1,45 @@
 -- Which rule a line breaks first, after the lines before it.
-use Rattle.std.specs.Prelude.{ℕ, ◌-◌, ◌==◌, List, [], ◌∷◌, drop, length, codes, Option, None, Some, Bool, true, false, not, ◌||◌, ◌&&◌, nat_lt, nat_eq, slice_get, is_some, if◌then◌else◌}
-use Rattle.std.specs.List.{list_all, starts_with}
-use Rattle.std.specs.Option.{is_none, unwrap_or, option_map_or}
-use Rattle.verbs_model.specs.declared.declaration.QpLine.{QpLine}
-use Rattle.verbs_model.specs.declared.declaration.TheConstants.{FIRST_QP}
-use Rattle.scenario_text.specs.Text.{Field, Line, split, part_at, is_text_byte, is_skipped, number_at}
+use Rattle.std.specs.Prelude.{ℕ, ◌==◌, List, [], ◌∷◌, drop, length, Option, None, Some, Bool, true, false, not, ◌||◌, ◌&&◌, nat_lt, is_some, if◌then◌else◌}
+use Rattle.std.specs.List.{list_all}
+use Rattle.std.specs.Option.{is_none}
+use Rattle.scenario_text.specs.Text.{Field, Line, split, part_at, is_text_byte, is_skipped}
 use Rattle.scenario_text.specs.Naming.{meaning_of, number_named}
-use Rattle.scenario_text.specs.Keywords.{keyword_of, is_later_word, is_later_operation, slots_of, more_of, section_of, is_of_thread, is_from}
+use Rattle.scenario_text.specs.Keywords.{keyword_in, slots_of, more_of, section_of, is_of_thread, is_from}
 use Rattle.scenario_text.specs.Slots.{actor_part, is_formed, has_number}
 use Rattle.scenario_text.specs.Sofar.{Said}
+use Rattle.scenario_text.specs.Uses.{qp_named, cq_named, pair_use, queue_use}
+use Rattle.scenario_text.specs.Built.{is_built}
 use Rattle.scenario_text.specs.declared.fault.TextRule.{TextRule}
 use Rattle.scenario_text.specs.declared.fault.TextRule.TheVariants as rules
 use Rattle.scenario_text.specs.declared.keyword.Keyword.{Keyword}
 use Rattle.scenario_text.specs.declared.keyword.Keyword.TheVariants as keywords
 use Rattle.scenario_text.specs.declared.keyword.Section.{Section}
-use Rattle.scenario_text.specs.declared.slot.Kind.{Kind}
 use Rattle.scenario_text.specs.declared.slot.Kind.TheVariants as kinds
 use Rattle.scenario_text.specs.declared.slot.Slot.{Slot}
-use Rattle.scenario_text.specs.declared.slot.Slot.TheVariants.{NewName, Name, Pair, Poster, Poller, Turns}
-use Rattle.scenario_text.specs.declared.sofar.PairUse.{PairUse}
+use Rattle.scenario_text.specs.declared.slot.Slot.TheVariants.{NewName, Name, Pair, Poster, Receiver, Poller, Turns}
 use Rattle.scenario_text.specs.declared.sofar.Place.{Place}
-use Rattle.scenario_text.specs.declared.sofar.Place.TheVariants.{Outside, InThread, InPost}
-use Rattle.scenario_text.specs.declared.sofar.QueueUse.{QueueUse}
-
--- the number of the object of this kind, or of the actor, with this name; 0 where there is none
-abbrev pub named : Said → Kind → Field → ℕ
-named s kind name = unwrap_or (number_named s.names kind name) 0
-
-abbrev pub qp_named : Said → Field → ℕ
-qp_named s name = named s kinds.Qp name
-
-abbrev pub cq_named : Said → Field → ℕ
-cq_named s name = named s kinds.Cq name
-
--- how a queue pair is used; one that is not declared is not used
-abbrev pub pair_use : Said → ℕ → PairUse
-pair_use s qp = unwrap_or (slice_get s.pairs (qp - FIRST_QP)) (record { connected = false; poster = None })
-
--- how a completion queue is used; one that is not declared has no room
-abbrev pub queue_use : Said → ℕ → QueueUse
-queue_use s cq = unwrap_or (slice_get s.queues cq) (record { poller = None; room = 0 })
-
--- the completion queue of a queue pair's send queue
-abbrev pub send_cq_of : Said → ℕ → ℕ
-send_cq_of s qp = option_map_or (λ (l : QpLine). l.send_cq) (slice_get s.lines.qps (qp - FIRST_QP)) 0
-
--- how many more requests may be posted on a queue pair
-abbrev pub room_for : Said → ℕ → ℕ
-room_for s qp = (queue_use s (send_cq_of s qp)).room
-
--- a line of so many fields ends with a number above 0
-abbrev pub starts_later : Line → ℕ → Bool
-starts_later line fields = (length line == fields) && nat_lt 0 (number_at line (fields - 1))
-
--- what is built: a request without operation, where its completion has room
-abbrev pub is_built_in : Said → Place → Field → Bool
-is_built_in s (InPost qp) operation = not (is_later_operation operation) && nat_lt 0 (room_for s qp)
-is_built_in s _ operation = true
-
-abbrev pub is_built_item : Said → Field → Bool
-is_built_item s operation = is_built_in s s.place operation
-
--- what is built: counts from 0, and receive queues of a queue pair's own
-abbrev pub is_built_line : Said → Option Keyword → Line → Bool
-is_built_line s (Some keywords.Cq) line = not (starts_later line 6)
-is_built_line s (Some keywords.Qp) line = not (starts_with nat_eq (part_at line 6) (codes "srq:")) && not (starts_later line 9)
-is_built_line s (Some keywords.Item) line = is_built_item s (part_at line 2)
-is_built_line s (Some _) line = true
-is_built_line s None line = not (is_later_word (part_at line 0))
-
-abbrev pub is_built : Said → Line → Bool
-is_built s line = is_built_line s (keyword_of (part_at line 0)) line
+use Rattle.scenario_text.specs.declared.sofar.Place.TheVariants.{Outside, InThread, InPost, InRecv}
 
 -- a line outside threads is of no section that is over
 abbrev pub may_begin : Section → Option Section → Bool
 may_begin earliest None = false
 may_begin earliest (Some section) = is_from earliest section
 
+-- the `+` lines of a list
 abbrev pub is_item : Keyword → Bool
 is_item keywords.Item = true
 is_item _ = false
 
--- a post has one request at least
+abbrev pub is_receive : Keyword → Bool
+is_receive keywords.Receive = true
+is_receive _ = false
+
+-- a list has one item at least
 abbrev pub may_stand_in : Said → Place → Keyword → Bool
 may_stand_in s Outside keyword = may_begin s.section (section_of keyword)
 may_stand_in s InThread keyword = is_of_thread keyword
 may_stand_in s (InPost qp) keyword = is_item keyword || (is_of_thread keyword && nat_lt 0 (length s.requests))
+may_stand_in s (InRecv qp) keyword = is_receive keyword || (is_of_thread keyword && nat_lt 0 (length s.receives))
 
 abbrev pub may_stand : Said → Keyword → Bool
 may_stand s keyword = may_stand_in s s.place keyword
@@ -106,6 +60,7 @@ abbrev pub is_known : Said → Slot → Field → Bool
 is_known s (Name kind) field = is_some (number_named s.names kind field)
 is_known s Pair field = is_some (number_named s.names kinds.Qp field)
 is_known s Poster field = is_some (number_named s.names kinds.Qp field)
+is_known s Receiver field = is_some (number_named s.names kinds.Qp field)
 is_known s Poller field = is_some (number_named s.names kinds.Cq field)
 is_known s Turns field = is_some (number_named s.names kinds.Actor (actor_part field))
 is_known s _ field = true
@@ -118,6 +73,7 @@ is_this s (Some thread) = thread == length s.lines.threads
 -- a side of a queue is used by one thread
 abbrev pub is_own : Said → Slot → Field → Bool
 is_own s Poster field = is_this s (pair_use s (qp_named s field)).poster
+is_own s Receiver field = is_this s (pair_use s (qp_named s field)).receiver
 is_own s Poller field = is_this s (queue_use s (cq_named s field)).poller
 is_own s _ field = true
 
@@ -163,4 +119,4 @@ fault_of s bytes =
     if not (list_all is_text_byte bytes) then Some rules.Byte
     else if is_skipped bytes then None
     else if not (is_built s (split 32 bytes)) then Some rules.NotBuilt
-    else broken_by s (keyword_of (part_at (split 32 bytes) 0)) (split 32 bytes)
+    else broken_by s (keyword_in s.place (part_at (split 32 bytes) 0)) (split 32 bytes)

@@ -2,9 +2,10 @@
 use Rattle.std.specs.Prelude.{ℕ, ◌==◌, List, [], ◌∷◌, codes, Bool, true, ◌||◌, ◌&&◌, nat_eq, drop, length, bytes_eq}
 use Rattle.std.specs.List.{list_any, starts_with}
 use Rattle.verbs_model.specs.Names.{is_name}
+use Rattle.scenario_text.specs.Segments as segments
 use Rattle.scenario_text.specs.Text.{Field, split, part_at, is_digits, is_number}
 use Rattle.scenario_text.specs.declared.slot.Slot.{Slot}
-use Rattle.scenario_text.specs.declared.slot.Slot.TheVariants.{NewName, Name, Pair, Poster, Poller, Number, RecvLog, Operation, Flags, Turns}
+use Rattle.scenario_text.specs.declared.slot.Slot.TheVariants.{NewName, Name, Pair, Poster, Receiver, Poller, Number, RecvLog, Operation, Flags, Segment, Turns}
 
 -- what follows `rq:`
 abbrev pub after_rq : Field → Field
@@ -36,16 +37,19 @@ is_formed NewName field = is_name field
 is_formed (Name kind) field = is_name field
 is_formed Pair field = is_name field
 is_formed Poster field = is_name field
+is_formed Receiver field = is_name field
 is_formed Poller field = is_name field
 is_formed Number field = is_digits field
 is_formed RecvLog field = starts_with nat_eq field (codes "rq:") && is_digits (after_rq field)
 is_formed Operation field = bytes_eq field (codes "nop")
 is_formed Flags field = are_flags field
+is_formed Segment field = segments.is_formed field
 is_formed Turns field = is_name (actor_part field) && is_counted field
 
 -- the digits of a field, if it has any, are a number
 abbrev pub has_number : Slot → Field → Bool
 has_number Number field = is_number field
 has_number RecvLog field = is_number (after_rq field)
+has_number Segment field = segments.has_numbers field
 has_number Turns field = (length (split 42 field) == 1) || is_number (times_part field)
 has_number _ field = true

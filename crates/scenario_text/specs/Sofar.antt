@@ -2,6 +2,7 @@
 use Rattle.std.specs.Prelude.{ℕ, ◌≤◌, ◌<◌, List, length, Option}
 use Rattle.verbs_model.specs.declared.call.Call.{Call}
 use Rattle.verbs_model.specs.declared.declaration.Lines.{Lines}
+use Rattle.verbs_model.specs.declared.request.Receive.{Receive}
 use Rattle.verbs_model.specs.declared.request.Request.{Request}
 use Rattle.scenario_text.specs.Naming.{Entry}
 use Rattle.scenario_text.specs.declared.keyword.Section.{Section}
@@ -26,10 +27,11 @@ pub record Said : Type 0 where
   pub queues : List QueueUse
   -- the calls of each thread whose end was read
   pub programs : List (List Call)
-  -- what the next line stands in: outside threads, in a thread with these calls, or in a post with these requests
+  -- what the next line stands in: outside threads, in a thread with these calls, in a post with these requests, or in a post of these receives
   pub place : Place
   pub calls : List Call
   pub requests : List Request
+  pub receives : List Receive
   pub plan : Plan
   -- the first limit that was passed
   pub passed : Option Passed
@@ -46,6 +48,7 @@ view_of s = record {
   place = s.place;
   calls = s.calls.items;
   requests = s.requests.items;
+  receives = s.receives.items;
   plan = s.plan;
   passed = s.passed;
 }

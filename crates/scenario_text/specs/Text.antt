@@ -1,5 +1,5 @@
 -- The lines of a text, the fields of a line, and the digits of a field.
-use Rattle.std.specs.Prelude.{ℕ, ◌+◌, ◌*◌, ◌-◌, ◌^◌, ◌==◌, List, [], ◌∷◌, Option, None, Some, codes, Bool, true, not, ◌&&◌, nat_lt, nat_le, nat_eq, length, slice_index_or, if◌then◌else◌}
+use Rattle.std.specs.Prelude.{ℕ, ◌+◌, ◌*◌, ◌-◌, ◌^◌, ◌==◌, min, List, [], ◌∷◌, Option, None, Some, codes, Bool, true, not, ◌&&◌, nat_lt, nat_le, nat_eq, length, slice_index, slice_index_or, if◌then◌else◌}
 use Rattle.std.specs.Char.{is_ascii_digit}
 use Rattle.std.specs.List.{slice_split, starts_with, list_all}
 use Rattle.std.specs.Option.{unwrap_or}
@@ -61,13 +61,39 @@ read_number digits = if is_number digits then Some (digits_value 10 digits) else
 abbrev pub number_at : Line → ℕ → ℕ
 number_at line place = unwrap_or (read_number (part_at line place)) 0
 
+-- a number of 32 bits; a greater one passes its limit and is kept as 2^32 - 1
+abbrev pub small : ℕ → ℕ
+small n = min n (2 ^ 32 - 1)
+
+abbrev pub small_at : Line → ℕ → ℕ
+small_at line place = small (number_at line place)
+
+-- the name in the first place after the word
+abbrev pub name_in : Line → Field
+name_in line = part_at line 1
+
 -- 0 to 9 and a to f
 abbrev pub hex_digit : ℕ → Option ℕ
 hex_digit b = if nat_le 48 b && nat_le b 57 then Some (b - 48) else if nat_le 97 b && nat_le b 102 then Some (b - 97 + 10) else None
 
-abbrev pub pair_of : Option ℕ → Option ℕ → Option ℕ
-pair_of (Some high) (Some low) = Some (high * 16 + low)
-pair_of _ _ = None
+-- two values as one, where the second has so many
+abbrev pub joined : ℕ → Option ℕ → Option ℕ → Option ℕ
+joined size (Some high) (Some low) = Some (high * size + low)
+joined size _ _ = None
 
 abbrev pub read_hex_pair : ℕ → ℕ → Option ℕ
-read_hex_pair high low = pair_of (hex_digit high) (hex_digit low)
+read_hex_pair high low = joined 16 (hex_digit high) (hex_digit low)
+
+-- two digits of a field, and four
+abbrev pub pair_at : Field → ℕ → Option ℕ
+pair_at field place = read_hex_pair (slice_index field place) (slice_index field (place + 1))
+
+abbrev pub half_at : Field → ℕ → Option ℕ
+half_at field place = joined 256 (pair_at field place) (pair_at field (place + 2))
+
+-- `#` and eight hexadecimal digits
+abbrev pub has_key_form : Field → Bool
+has_key_form field = (length field == 9) && starts_with nat_eq field (codes "#")
+
+abbrev pub read_key : Field → Option ℕ
+read_key field = if has_key_form field then joined 65536 (half_at field 1) (half_at field 5) else None

@@ -1,11 +1,12 @@
 -- What a whole text says.
-use Rattle.std.specs.Prelude.{ℕ, ◌≡◌, ◌+◌, List, [], ◌∷◌, length, nat_lt, Option, None, Some, Result, Ok, Err, ⊤, if◌then◌else◌}
+use Rattle.std.specs.Prelude.{ℕ, ◌≡◌, ◌+◌, IsTrue, List, [], ◌∷◌, length, nat_lt, Option, None, Some, Result, Ok, Err, ⊤, if◌then◌else◌}
+use Rattle.verbs_model.specs.Lines.{is_declared}
 use Rattle.scenario_text.specs.Text.{split}
 use Rattle.scenario_text.specs.Naming.{taken_names}
 use Rattle.scenario_text.specs.Sofar.{Said}
 use Rattle.scenario_text.specs.Rules.{fault_of}
 use Rattle.scenario_text.specs.After.{after_line}
-use Rattle.scenario_text.specs.Bounds.{passed_in_all}
+use Rattle.scenario_text.specs.Bounds.{passed_in_lines, passed_in_run}
 use Rattle.scenario_text.specs.declared.fault.LimitName.TheVariants.{Text}
 use Rattle.scenario_text.specs.declared.fault.ScenarioFault.{ScenarioFault}
 use Rattle.scenario_text.specs.declared.fault.ScenarioFault.TheVariants.{Malformed, Limit, NoMemory}
@@ -35,6 +36,7 @@ nothing_said = record {
   place = Outside;
   calls = [];
   requests = [];
+  receives = [];
   plan = Idle;
   passed = None;
 }
@@ -42,17 +44,26 @@ nothing_said = record {
 abbrev pub parts_said : Said → ScenarioParts
 parts_said s = record { lines = s.lines; programs = s.programs; plan = s.plan }
 
-abbrev pub within_limits : Option Passed → Said → Answer
-within_limits (Some p) s = Err (Limit p.name p.value)
-within_limits None s = Ok (parts_said s)
+-- no limit is passed, or this one is the first
+abbrev pub within_limits : Option Passed → Answer → Answer
+within_limits (Some p) rest = Err (Limit p.name p.value)
+within_limits None rest = rest
+
+-- the limits of the lines come before those of the run
+abbrev pub all_within : Said → ScenarioParts → Answer
+all_within s p = within_limits (passed_in_lines s) (within_limits (passed_in_run p) (Ok p))
 
 -- what all lines say, where the text ends in this place
 abbrev pub end_in : Place → Said → Answer
-end_in Outside s = within_limits (passed_in_all s) s
+end_in Outside s = all_within s (parts_said s)
 end_in _ s = Err (Malformed s.count Missing)
 
 abbrev pub end_of : Said → Answer
 end_of s = end_in s.place s
+
+-- a text that ends here and passes no limit declares what it names
+abbrev pub EndsDeclared : Said → Type 0
+EndsDeclared s = s.place ≡ Outside → passed_in_lines s ≡ None → IsTrue (is_declared s.lines)
 
 abbrev pub broken : ℕ → TextRule → Answer
 broken line why = Err (Malformed line why)

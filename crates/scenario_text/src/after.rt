@@ -2,7 +2,7 @@
 ghost use Rattle.std.specs.Prelude.{◌≡◌, ◌<◌, OnOk, IfOk, None, map};
 ghost use Rattle.scenario_text.specs.After as after;
 ghost use Rattle.scenario_text.specs.Fitting.{IsNamed};
-ghost use Rattle.scenario_text.specs.Rules as rules;
+ghost use Rattle.scenario_text.specs.Rules.{fault_of};
 ghost use Rattle.scenario_text.specs.Sofar.{view_of, IsSmall, IsFew};
 ghost use Rattle.scenario_text.specs.Text.{split};
 
@@ -21,14 +21,14 @@ impl Sofar {
     pub fn add(&mut self, alloc: Global, line: &[u8]) -> Result<(), AllocError>
         requires small { IsSmall (view_of self.old) }
         requires left { (view_of self.old).count < 4194304 }
-        requires good { rules.fault_of (view_of self.old) line.now ≡ None }
+        requires good { fault_of (view_of self.old) line.now ≡ None }
         ensures added { OnOk result (view_of self.new ≡ after.after_line (view_of self.old) line.now) }
     {
         self.count += 1;
         if is_skipped(line) {
             return Ok(());
         }
-        match Keyword::of(part(line, SPACE, 0)) {
+        match self.keyword(part(line, SPACE, 0)) {
             Some(keyword) => self.add_keyword(alloc, keyword, line),
             None => Ok(()),
         }
@@ -45,7 +45,7 @@ impl Sofar {
         ensures added { OnOk result (view_of self.new ≡ after.add_line keyword (split 32 line.now) (view_of self.old)) }
     {
         if keyword.is_of_thread() {
-            self.close_post(alloc)?;
+            self.close_list(alloc)?;
         }
         self.note_limits(keyword, line);
         if let Some(section) = keyword.section() {
@@ -64,6 +64,11 @@ impl Sofar {
                 Ok(())
             }
             Keyword::Item => self.add_request(alloc, line),
+            Keyword::Recv => {
+                self.add_recv(line);
+                Ok(())
+            }
+            Keyword::Receive => self.add_receive(alloc, line),
             Keyword::Poll => self.add_poll(line),
             Keyword::Drain => self.add_drain(line),
             Keyword::Schedule => self.add_schedule(alloc, line),

@@ -1,5 +1,5 @@
 //! The limits of lines and of whole texts.
-ghost use Rattle.std.specs.Prelude.{◌≡◌, ◌<◌, ◌==◌, ◌^◌, ◌-◌, ◌+◌, min};
+ghost use Rattle.std.specs.Prelude.{◌≡◌, ◌<◌, ◌==◌, ◌^◌, ◌-◌, ◌+◌, length, min};
 ghost use Rattle.verbs_model.specs.declared.declaration.CqLine.{CqLine as TheCqLine};
 ghost use Rattle.std.specs.List.{count_by, sum_by};
 ghost use Rattle.scenario_text.specs.After as after;
@@ -10,9 +10,12 @@ ghost use Rattle.scenario_text.specs.Text.{split};
 
 use crate::fault::LimitName;
 use crate::keyword::Keyword;
-use crate::scenario::{Plan, PlanItem};
+use crate::parts::Parts;
+use crate::scenario::{Plan, PlanItem, ScenarioParts};
+use crate::segment;
 use crate::sofar::{Passed, Sofar};
 use crate::values::{number, recv_log, size};
+use actor_map::{notes, words};
 
 /// The greatest start value.
 const MAX_START: u64 = 1 << 32;
@@ -20,8 +23,17 @@ const MAX_START: u64 = 1 << 32;
 /// The most calls of a thread.
 const MAX_CALLS: u64 = 65_536;
 
+/// The most bytes of a segment, and of the segments of one receive together.
+const MAX_LENGTH: u64 = 65_536;
+
 /// The most turns of a plan.
 const MAX_TURNS: u64 = 1_048_576;
+
+/// The most words of the address map.
+const MAX_WORDS: u64 = 1_048_576;
+
+/// The greatest weight, which bounds how long a run may become.
+const MAX_NOTES: u64 = 4_194_304;
 
 /// A value, and from where to where it may be.
 #[derive(Clone, Copy, Debug, PartialEq, Eq)]
@@ -52,10 +64,18 @@ impl Bound {
         Bound::new(name, before as u64 + 1, 0, most)
     }
 
-    fn is_kept(self) -> bool
-        ensures { result ≡ bounds.is_kept self }
+    /// The limit, if it is passed.
+    fn passed(self) -> Option<Passed>
+        ensures { result ≡ bounds.passed_alone self }
     {
-        self.least <= self.value && self.value <= self.most
+        if self.least <= self.value && self.value <= self.most {
+            None
+        } else {
+            Some(Passed {
+                name: self.name,
+                value: self.value,
+            })
+        }
     }
 }
 
@@ -80,11 +100,12 @@ impl Sofar {
                 let bound = Bound::one_more(LimitName::Threads, self.threads.len(), 16);
                 self.note(bound);
             }
-            Keyword::Post => self.note_call(),
+            Keyword::Post | Keyword::Recv => self.note_call(),
             Keyword::Item => {
                 let bound = Bound::one_more(LimitName::List, self.requests.len(), 16);
                 self.note(bound);
             }
+            Keyword::Receive => self.note_receive(line),
             Keyword::Poll => {
                 self.note_call();
                 self.note(Bound::new(LimitName::Poll, number(line, 2), 1, 16));
@@ -119,6 +140,39 @@ impl Sofar {
         self.note(Bound::new(LimitName::Start, number(line, 8), 0, MAX_START));
     }
 
+    fn note_receive(&mut self, line: &[u8])
+        ensures { view_of self.new ≡ after.note_limits Keyword.Receive (split 32 line.now) (view_of self.old) }
+    {
+        let list = Bound::one_more(LimitName::List, self.receives.len(), 16);
+        self.note(list);
+        let most = u64::from(self.segments());
+        self.note_segments(most, segment::fields(line));
+    }
+
+    /// Notes the limits of segments, of which a receive has so many at most.
+    fn note_segments(&mut self, most: u64, mut fields: Parts)
+        requires few { length fields.left < 2 ^ 64 - 1 }
+        ensures { view_of self.new ≡ record (view_of self.old) { passed = bounds.passed_after (view_of self.old).passed (bounds.segment_bounds most 1 0 fields.entry.left) } }
+    {
+        let mut place = 1;
+        let mut before = 0;
+        while let Some(field) = fields.next_part() {
+            let length = segment::length(field);
+            let total = length.saturating_add(before);
+            self.note_segment(most, place, length, total);
+            place += 1;
+            before = total;
+        }
+    }
+
+    fn note_segment(&mut self, most: u64, place: u64, length: u64, total: u64)
+        ensures { view_of self.new ≡ record (view_of self.old) { passed = bounds.passed_after (view_of self.old).passed (bounds.one_segment most place length total) } }
+    {
+        self.note(Bound::new(LimitName::Sges, place, 0, most));
+        self.note(Bound::new(LimitName::Length, length, 0, MAX_LENGTH));
+        self.note(Bound::new(LimitName::Length, total, 0, MAX_LENGTH));
+    }
+
     fn note_call(&mut self)
         ensures { view_of self.new ≡ record (view_of self.old) { passed = bounds.passed_by (view_of self.old).passed (bounds.calls_bound (view_of self.old)) } }
     {
@@ -130,17 +184,14 @@ impl Sofar {
     fn note(&mut self, bound: Bound)
         ensures { view_of self.new ≡ record (view_of self.old) { passed = bounds.passed_by (view_of self.old).passed bound } }
     {
-        if self.passed.is_none() && !bound.is_kept() {
-            self.passed = Some(Passed {
-                name: bound.name,
-                value: bound.value,
-            });
+        if self.passed.is_none() {
+            self.passed = bound.passed();
         }
     }
 
-    /// The first limit that the whole text passes.
-    pub fn passed_in_all(&mut self) -> Option<Passed>
-        ensures passed { result ≡ bounds.passed_in_all (view_of self.old) }
+    /// The first limit that the lines pass, one by one and together.
+    pub fn passed_in_lines(&mut self) -> Option<Passed>
+        ensures passed { result ≡ bounds.passed_in_lines (view_of self.old) }
         ensures same { view_of self.new ≡ record (view_of self.old) { passed = result } }
     {
         self.note_events();
@@ -186,6 +237,20 @@ impl Sofar {
             Plan::Rounds(rounds) => rounds.saturating_mul(self.threads.len() as u64 + 1),
         }
     }
+}
+
+/// The first limit that the run of a scenario passes.
+pub fn passed_in_run(parts: &ScenarioParts) -> Option<Passed>
+    ensures { result ≡ bounds.passed_in_run parts.now }
+{
+    let words = Bound::new(LimitName::Words, words(&parts.lines), 0, MAX_WORDS);
+    let notes = Bound::new(
+        LimitName::Notes,
+        notes(&parts.lines, parts.programs.as_slice()),
+        0,
+        MAX_NOTES,
+    );
+    words.passed().or(notes.passed())
 }
 
 fn turns_of(items: &[PlanItem]) -> u64

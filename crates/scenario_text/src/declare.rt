@@ -1,10 +1,10 @@
 //! What the lines of objects and connections add.
 ghost use Rattle.std.specs.Prelude.{◌≡◌, ◌<◌, OnOk, IsTrue, None, length};
 ghost use Rattle.verbs_model.specs.Names.{is_name};
-ghost use Rattle.scenario_text.specs.After as after;
+ghost use Rattle.scenario_text.specs.AfterObjects as after;
 ghost use Rattle.scenario_text.specs.Naming.{meaning_of};
 ghost use Rattle.scenario_text.specs.Sofar.{view_of};
-ghost use Rattle.scenario_text.specs.Text.{split};
+ghost use Rattle.scenario_text.specs.Text.{split, name_in};
 
 use crate::names::Meaning;
 use crate::parts::{SPACE, part};
@@ -16,7 +16,7 @@ use verbs_model::{Connect, CqLine, EqLine, FIRST_PD, FIRST_QP, Object, PdLine, Q
 
 impl Sofar {
     pub fn give(&mut self, alloc: Global, line: &[u8], meaning: Meaning) -> Result<(), AllocError>
-        requires new { meaning_of (view_of self.old).names (after.name_in (split 32 line.now)) ≡ None }
+        requires new { meaning_of (view_of self.old).names (name_in (split 32 line.now)) ≡ None }
         ensures given { OnOk result (view_of self.new ≡ after.give (split 32 line.now) meaning (view_of self.old)) }
     {
         self.names.give(alloc, part(line, SPACE, 1), meaning)
@@ -24,8 +24,8 @@ impl Sofar {
 
     pub fn add_eq(&mut self, alloc: Global, line: &[u8]) -> Result<(), AllocError>
         requires few { length (view_of self.old).lines.eqs < 4194304 }
-        requires new { meaning_of (view_of self.old).names (after.name_in (split 32 line.now)) ≡ None }
-        requires name { IsTrue (is_name (after.name_in (split 32 line.now))) }
+        requires new { meaning_of (view_of self.old).names (name_in (split 32 line.now)) ≡ None }
+        requires name { IsTrue (is_name (name_in (split 32 line.now))) }
         ensures added { OnOk result (view_of self.new ≡ after.add_eq (split 32 line.now) (view_of self.old)) }
     {
         let object = Object::Eq(self.eqs.len() as u32);
@@ -40,8 +40,8 @@ impl Sofar {
 
     pub fn add_pd(&mut self, alloc: Global, line: &[u8]) -> Result<(), AllocError>
         requires few { length (view_of self.old).lines.pds < 4194304 }
-        requires new { meaning_of (view_of self.old).names (after.name_in (split 32 line.now)) ≡ None }
-        requires name { IsTrue (is_name (after.name_in (split 32 line.now))) }
+        requires new { meaning_of (view_of self.old).names (name_in (split 32 line.now)) ≡ None }
+        requires name { IsTrue (is_name (name_in (split 32 line.now))) }
         ensures added { OnOk result (view_of self.new ≡ after.add_pd (split 32 line.now) (view_of self.old)) }
     {
         let object = Object::Pd(FIRST_PD + self.pds.len() as u32);
@@ -55,8 +55,8 @@ impl Sofar {
 
     pub fn add_cq(&mut self, alloc: Global, line: &[u8]) -> Result<(), AllocError>
         requires few { length (view_of self.old).lines.cqs < 4194304 }
-        requires new { meaning_of (view_of self.old).names (after.name_in (split 32 line.now)) ≡ None }
-        requires name { IsTrue (is_name (after.name_in (split 32 line.now))) }
+        requires new { meaning_of (view_of self.old).names (name_in (split 32 line.now)) ≡ None }
+        requires name { IsTrue (is_name (name_in (split 32 line.now))) }
         ensures added { OnOk result (view_of self.new ≡ after.add_cq (split 32 line.now) (view_of self.old)) }
     {
         let object = Object::Cq(self.cqs.len() as u32);
@@ -79,8 +79,8 @@ impl Sofar {
 
     pub fn add_qp(&mut self, alloc: Global, line: &[u8]) -> Result<(), AllocError>
         requires few { length (view_of self.old).lines.qps < 4194304 }
-        requires new { meaning_of (view_of self.old).names (after.name_in (split 32 line.now)) ≡ None }
-        requires name { IsTrue (is_name (after.name_in (split 32 line.now))) }
+        requires new { meaning_of (view_of self.old).names (name_in (split 32 line.now)) ≡ None }
+        requires name { IsTrue (is_name (name_in (split 32 line.now))) }
         ensures added { OnOk result (view_of self.new ≡ after.add_qp (split 32 line.now) (view_of self.old)) }
     {
         let object = Object::Qp(FIRST_QP + self.qps.len() as u32);
@@ -92,6 +92,7 @@ impl Sofar {
         self.pairs.push(PairUse {
             connected: false,
             poster: None,
+            receiver: None,
         })?;
         self.qps.push(QpLine {
             name: name(alloc, line)?,

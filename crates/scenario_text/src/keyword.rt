@@ -23,8 +23,12 @@ pub enum Keyword {
     End,
     /// `post QP`
     Post,
-    /// `+ ID OP FLAGS`
+    /// `+ ID OP FLAGS`, after `post`
     Item,
+    /// `recv QP`
+    Recv,
+    /// `+ ID SGE SGE`, after `recv`
+    Receive,
     /// `poll CQ MAX`
     Poll,
     /// `drain CQ COUNT`
@@ -47,7 +51,7 @@ pub enum Section {
 }
 
 impl Keyword {
-    /// The keyword that a field is.
+    /// The keyword that a field is outside the lists of receives.
     pub fn of(field: &[u8]) -> Option<Keyword>
         ensures { result ≡ keywords.keyword_of field.now }
     {
@@ -69,6 +73,8 @@ impl Keyword {
             Some(Keyword::Post)
         } else if is(field, "+") {
             Some(Keyword::Item)
+        } else if is(field, "recv") {
+            Some(Keyword::Recv)
         } else if is(field, "poll") {
             Some(Keyword::Poll)
         } else if is(field, "drain") {
@@ -111,6 +117,8 @@ impl Keyword {
             Keyword::End => &[],
             Keyword::Post => &[Slot::Poster],
             Keyword::Item => &[Slot::Number, Slot::Operation, Slot::Flags],
+            Keyword::Recv => &[Slot::Receiver],
+            Keyword::Receive => &[Slot::Number],
             Keyword::Poll | Keyword::Drain => &[Slot::Poller, Slot::Number],
             Keyword::Schedule => &[Slot::Turns],
             Keyword::Rounds => &[Slot::Number],
@@ -122,6 +130,7 @@ impl Keyword {
         ensures { result ≡ keywords.more_of self }
     {
         match self {
+            Keyword::Receive => Some(Slot::Segment),
             Keyword::Schedule => Some(Slot::Turns),
             _ => None,
         }
@@ -136,7 +145,13 @@ impl Keyword {
             Keyword::Connect => Some(Section::Connects),
             Keyword::Thread => Some(Section::Threads),
             Keyword::Schedule | Keyword::Rounds => Some(Section::Plan),
-            Keyword::End | Keyword::Post | Keyword::Item | Keyword::Poll | Keyword::Drain => None,
+            Keyword::End
+            | Keyword::Post
+            | Keyword::Item
+            | Keyword::Recv
+            | Keyword::Receive
+            | Keyword::Poll
+            | Keyword::Drain => None,
         }
     }
 
@@ -145,7 +160,7 @@ impl Keyword {
         ensures { result ≡ keywords.is_of_thread self }
     {
         match self {
-            Keyword::End | Keyword::Post | Keyword::Poll | Keyword::Drain => true,
+            Keyword::End | Keyword::Post | Keyword::Recv | Keyword::Poll | Keyword::Drain => true,
             _ => false,
         }
     }
@@ -184,7 +199,6 @@ pub fn is_later_word(field: &[u8]) -> bool
     is(field, "arena")
         || is(field, "mr")
         || is(field, "srq")
-        || is(field, "recv")
         || is(field, "srqpost")
         || is(field, "arm")
         || is(field, "event")

@@ -3,6 +3,7 @@
 
 mod after;
 mod bounds;
+mod built;
 mod calls;
 mod declare;
 mod fault;
@@ -14,10 +15,12 @@ mod parse;
 mod parts;
 mod rules;
 mod scenario;
+mod segment;
 mod slot;
 mod sofar;
 #[cfg(test)]
 mod tests;
+mod uses;
 mod values;
 
 pub use fault::{LimitName, ScenarioFault, TextRule};

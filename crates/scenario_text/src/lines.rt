@@ -1,11 +1,11 @@
-//! Readers of lines, fields, names, numbers and hexadecimal digits.
-ghost use Rattle.std.specs.Prelude.{◌≡◌};
+//! Readers of lines, fields, names, numbers, hexadecimal digits and keys.
+ghost use Rattle.std.specs.Prelude.{◌≡◌, ◌+◌, ◌≤◌, length};
 ghost use Rattle.std.specs.List.{list_all};
+ghost use Rattle.verbs_model.specs.Names as names;
 ghost use Rattle.scenario_text.specs.Text as text;
 
 pub use crate::parts::{LINE_END, Parts, SPACE, cut, has_parts, part};
 use std::str;
-pub use verbs_model::is_name;
 
 /// Whether all bytes are of a text: 0x20 to 0x7e.
 pub fn are_text_bytes(line: &[u8]) -> bool
@@ -28,6 +28,28 @@ pub fn is_skipped(line: &[u8]) -> bool
         Some(byte) => *byte == b'#',
         None => true,
     }
+}
+
+/// Whether a field is a name: 1 to 16 of `a` to `z`, `0` to `9` and `_`, the first a letter.
+pub fn is_name(field: &[u8]) -> bool
+    ensures { result ≡ names.is_name field.now }
+{
+    match field.first() {
+        Some(first) => first.is_ascii_lowercase() && field.len() <= 16 && has_name_bytes(field),
+        None => false,
+    }
+}
+
+fn has_name_bytes(field: &[u8]) -> bool
+    ensures { result ≡ list_all names.is_name_byte field.now }
+{
+    field.iter().all(|byte| is_name_byte(*byte))
+}
+
+fn is_name_byte(byte: u8) -> bool
+    ensures { result ≡ names.is_name_byte byte }
+{
+    byte.is_ascii_lowercase() || byte.is_ascii_digit() || byte == b'_'
 }
 
 /// Whether there are digits and nothing else.
@@ -86,4 +108,26 @@ pub fn hex_digit(digit: u8) -> Option<u8>
         b'a'..=b'f' => Some(digit - b'a' + 10),
         _ => None,
     }
+}
+
+/// The key that `#` and eight hexadecimal digits spell.
+pub fn read_key(field: &[u8]) -> Option<u32>
+    ensures { result ≡ text.read_key field.now }
+{
+    if field.len() != 9 || !field.starts_with(b"#") {
+        return None;
+    }
+    let high = u32::from(read_half(field, 1)?);
+    let low = u32::from(read_half(field, 5)?);
+    Some(high * 65_536 + low)
+}
+
+/// The number that the four hexadecimal digits from this place on spell.
+fn read_half(field: &[u8], place: usize) -> Option<u16>
+    requires { place + 4 ≤ length field.now }
+    ensures { result ≡ text.half_at field.now place }
+{
+    let high = u16::from(read_hex_pair(field[place], field[place + 1])?);
+    let low = u16::from(read_hex_pair(field[place + 2], field[place + 3])?);
+    Some(high * 256 + low)
 }

@@ -1,14 +1,17 @@
 //! From a text to a scenario.
 ghost use Rattle.std.specs.Prelude.{◌≡◌, ◌≤◌, IfOk, IfErr, length, Ok, Err};
-ghost use Rattle.scenario_text.specs.Whole.{HasFault, Says, end_of, nothing_said, parts_said};
+ghost use Rattle.std.specs.Prelude.{IsTrue};
+ghost use Rattle.verbs_model.specs.Lines.{is_declared};
+ghost use Rattle.scenario_text.specs.Whole.{EndsDeclared, HasFault, Says, end_of, nothing_said, parts_said};
 ghost use Rattle.scenario_text.specs.Sofar.{view_of};
 
+use crate::bounds::passed_in_run;
 use crate::fault::{LimitName, ScenarioFault, TextRule};
 use crate::keyword::Section;
 use crate::names::{Meaning, Names};
 use crate::parts::{LINE_END, cut};
 use crate::scenario::{Plan, Scenario, ScenarioParts};
-use crate::sofar::{Place, Sofar};
+use crate::sofar::{Passed, Place, Sofar};
 use std::alloc::{AllocError, Global};
 use verbs_model::{Declared, Lines, Sequence};
 
@@ -28,10 +31,7 @@ pub fn parse_scenario(alloc: Global, text: &[u8]) -> Result<Scenario, ScenarioFa
         });
     }
     let parts = read_parts(alloc, text)?;
-    match Declared::new(parts.lines) {
-        Ok(declared) => Ok(Scenario::new(declared, parts.programs, parts.plan)),
-        Err(_) => Err(ScenarioFault::NoMemory),
-    }
+    Ok(Scenario::new(parts.lines, parts.programs, parts.plan))
 }
 
 /// Reads all lines.
@@ -64,6 +64,15 @@ fn malformed(line: u32, why: TextRule) -> ScenarioFault
     ScenarioFault::Malformed { line, why }
 }
 
+fn limit(passed: Passed) -> ScenarioFault
+    ensures { result ≡ ScenarioFault.Limit passed.name passed.value }
+{
+    ScenarioFault::Limit {
+        name: passed.name,
+        value: passed.value,
+    }
+}
+
 impl Sofar {
     /// Before the first line nothing is said but the names that are taken from the start.
     fn new(alloc: Global) -> Result<Sofar, AllocError>
@@ -90,6 +99,7 @@ impl Sofar {
             place: Place::Outside,
             calls: Vec::new(alloc),
             requests: Vec::new(alloc),
+            receives: Vec::new(alloc),
             plan: Plan::Idle,
             passed: None,
         })
@@ -97,34 +107,38 @@ impl Sofar {
 
     /// What all lines together say.
     fn finish(mut self) -> Result<ScenarioParts, ScenarioFault>
+        requires declared { EndsDeclared (view_of self) }
         ensures found { IfOk result (λ parts. end_of (view_of self) ≡ Ok parts) }
         ensures fault { IfErr result (λ fault. end_of (view_of self) ≡ Err fault) }
     {
         if self.place != Place::Outside {
             return Err(malformed(self.count, TextRule::Missing));
         }
-        match self.passed_in_all() {
-            Some(passed) => Err(ScenarioFault::Limit {
-                name: passed.name,
-                value: passed.value,
-            }),
-            None => Ok(self.into_parts()),
+        if let Some(passed) = self.passed_in_lines() {
+            return Err(limit(passed));
+        }
+        let parts = self.into_parts();
+        match passed_in_run(&parts) {
+            Some(passed) => Err(limit(passed)),
+            None => Ok(parts),
         }
     }
 
     fn into_parts(self) -> ScenarioParts
+        requires declared { IsTrue (is_declared (view_of self).lines) }
         ensures { result ≡ parts_said (view_of self) }
     {
+        let lines = Lines {
+            eqs: Sequence::from_vec(self.eqs),
+            pds: Sequence::from_vec(self.pds),
+            cqs: Sequence::from_vec(self.cqs),
+            qps: Sequence::from_vec(self.qps),
+            order: Sequence::from_vec(self.order),
+            connects: Sequence::from_vec(self.connects),
+            threads: Sequence::from_vec(self.threads),
+        };
         ScenarioParts {
-            lines: Lines {
-                eqs: Sequence::from_vec(self.eqs),
-                pds: Sequence::from_vec(self.pds),
-                cqs: Sequence::from_vec(self.cqs),
-                qps: Sequence::from_vec(self.qps),
-                order: Sequence::from_vec(self.order),
-                connects: Sequence::from_vec(self.connects),
-                threads: Sequence::from_vec(self.threads),
-            },
+            lines: Declared::new(lines).unwrap(),
             programs: Sequence::from_vec(self.programs),
             plan: self.plan,
         }

@@ -1,17 +1,16 @@
 //! Which rule a line breaks first.
-ghost use Rattle.std.specs.Prelude.{◌≡◌, ◌<◌};
+ghost use Rattle.std.specs.Prelude.{◌≡◌};
 ghost use Rattle.std.specs.List.{list_all};
 ghost use Rattle.scenario_text.specs.Rules as rules;
 ghost use Rattle.scenario_text.specs.Sofar.{view_of};
 ghost use Rattle.scenario_text.specs.Text.{split};
 
 use crate::fault::TextRule;
-use crate::keyword::{Keyword, is_later_operation, is_later_word};
-use crate::lines::{are_text_bytes, is_skipped, read_number};
-use crate::parts::{Parts, SPACE, has_parts, part};
+use crate::keyword::Keyword;
+use crate::lines::{are_text_bytes, is_skipped};
+use crate::parts::{Parts, SPACE, part};
 use crate::slot::{Kind, Slot, TIMES};
-use crate::sofar::{PairUse, Place, QueueUse, Sofar};
-use verbs_model::FIRST_QP;
+use crate::sofar::{Place, Sofar};
 
 impl Sofar {
     /// The first rule that this line breaks.
@@ -27,78 +26,9 @@ impl Sofar {
         if !self.is_built(line) {
             return Some(TextRule::NotBuilt);
         }
-        match Keyword::of(part(line, SPACE, 0)) {
+        match self.keyword(part(line, SPACE, 0)) {
             Some(keyword) => self.first_broken(keyword, line),
             None => Some(TextRule::Form),
-        }
-    }
-
-    /// Whether the line has a form that is built.
-    fn is_built(&self, line: &[u8]) -> bool
-        ensures { result ≡ rules.is_built (view_of self.now) (split 32 line.now) }
-    {
-        let word = part(line, SPACE, 0);
-        match Keyword::of(word) {
-            Some(Keyword::Cq) => !starts_later(line, 6),
-            Some(Keyword::Qp) => {
-                !part(line, SPACE, 6).starts_with(b"srq:") && !starts_later(line, 9)
-            }
-            Some(Keyword::Item) => self.is_built_item(part(line, SPACE, 2)),
-            Some(_) => true,
-            None => !is_later_word(word),
-        }
-    }
-
-    /// Whether a request with this operation is built where the next line stands.
-    fn is_built_item(&self, operation: &[u8]) -> bool
-        ensures { result ≡ rules.is_built_item (view_of self.now) operation.now }
-    {
-        match self.place {
-            Place::InPost(qp) => !is_later_operation(operation) && self.room_for(qp) > 0,
-            _ => true,
-        }
-    }
-
-    /// How many more requests may be posted on this queue pair.
-    fn room_for(&self, qp: u32) -> u64
-        ensures { result ≡ rules.room_for (view_of self.now) qp }
-    {
-        self.queue_use(self.send_cq(qp)).room
-    }
-
-    /// The completion queue of a queue pair's send queue; 0 where there is no such queue pair.
-    pub fn send_cq(&self, qp: u32) -> u32
-        ensures { result ≡ rules.send_cq_of (view_of self.now) qp }
-    {
-        match self.qps.get(qp.saturating_sub(FIRST_QP) as usize) {
-            Some(line) => line.send_cq,
-            None => 0,
-        }
-    }
-
-    /// How a completion queue is used; one that is not there has no room.
-    fn queue_use(&self, cq: u32) -> QueueUse
-        ensures { result ≡ rules.queue_use (view_of self.now) cq }
-    {
-        match self.queues.get(cq as usize) {
-            Some(used) => *used,
-            None => QueueUse {
-                poller: None,
-                room: 0,
-            },
-        }
-    }
-
-    /// How a queue pair is used.
-    fn pair_use(&self, qp: u32) -> PairUse
-        ensures { result ≡ rules.pair_use (view_of self.now) qp }
-    {
-        match self.pairs.get(qp.saturating_sub(FIRST_QP) as usize) {
-            Some(used) => *used,
-            None => PairUse {
-                connected: false,
-                poster: None,
-            },
         }
     }
 
@@ -133,6 +63,9 @@ impl Sofar {
             Place::InThread => keyword.is_of_thread(),
             Place::InPost(_) => {
                 keyword == Keyword::Item || keyword.is_of_thread() && !self.requests.is_empty()
+            }
+            Place::InRecv(_) => {
+                keyword == Keyword::Receive || keyword.is_of_thread() && !self.receives.is_empty()
             }
         }
     }
@@ -221,7 +154,9 @@ impl Sofar {
     {
         match slot {
             Slot::Name(kind) => self.names.number(kind, field).is_some(),
-            Slot::Pair | Slot::Poster => self.names.number(Kind::Qp, field).is_some(),
+            Slot::Pair | Slot::Poster | Slot::Receiver => {
+                self.names.number(Kind::Qp, field).is_some()
+            }
             Slot::Poller => self.names.number(Kind::Cq, field).is_some(),
             Slot::Turns => {
                 let name = part(field, TIMES, 0);
@@ -237,6 +172,7 @@ impl Sofar {
     {
         match slot {
             Slot::Poster => self.is_this(self.pair_use(self.qp(field)).poster),
+            Slot::Receiver => self.is_this(self.pair_use(self.qp(field)).receiver),
             Slot::Poller => self.is_this(self.queue_use(self.cq(field)).poller),
             _ => true,
         }
@@ -251,33 +187,4 @@ impl Sofar {
             None => true,
         }
     }
-
-    /// The number of the object of this kind, or of the actor, with this name; 0 where there is none.
-    pub fn named(&self, kind: Kind, name: &[u8]) -> u32
-        ensures { result ≡ rules.named (view_of self.now) kind name.now }
-    {
-        self.names.number(kind, name).unwrap_or(0)
-    }
-
-    /// The number of the queue pair with this name; 0 where there is none.
-    pub fn qp(&self, name: &[u8]) -> u32
-        ensures { result ≡ rules.qp_named (view_of self.now) name.now }
-    {
-        self.named(Kind::Qp, name)
-    }
-
-    /// The number of the completion queue with this name; 0 where there is none.
-    pub fn cq(&self, name: &[u8]) -> u32
-        ensures { result ≡ rules.cq_named (view_of self.now) name.now }
-    {
-        self.named(Kind::Cq, name)
-    }
-}
-
-/// Whether a line of so many fields ends with a number above 0.
-fn starts_later(line: &[u8], fields: usize) -> bool
-    requires { 0 < fields }
-    ensures { result ≡ rules.starts_later (split 32 line.now) fields }
-{
-    has_parts(line, SPACE, fields) && read_number(part(line, SPACE, fields - 1)).unwrap_or(0) > 0
 }

@@ -4,7 +4,7 @@ ghost use Rattle.scenario_text.specs.Whole.{IsScenario};
 ghost use Rattle.scenario_text.specs.Running.{CanRun};
 
 use std::marker::Model;
-use verbs_model::{Call, Declared, Lines, Sequence};
+use verbs_model::{Call, Declared, Sequence};
 
 /// An item of a schedule: this actor's turns.
 #[derive(Clone, Copy, Debug, PartialEq, Eq)]
@@ -29,7 +29,7 @@ pub enum Plan {
 /// The objects, what each thread is to do, and whose turn it is.
 #[derive(Debug, Drop)]
 pub struct ScenarioParts {
-    pub lines: Lines,
+    pub lines: Declared,
     /// The calls of each thread, in the order of the threads' names.
     pub programs: Sequence<Sequence<Call>>,
     pub plan: Plan,

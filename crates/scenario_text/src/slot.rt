@@ -4,6 +4,7 @@ ghost use Rattle.scenario_text.specs.Slots as slots;
 
 use crate::lines::{is_digits, is_name, is_number};
 use crate::parts::{has_parts, part};
+use crate::segment;
 
 /// What a name stands for.
 #[derive(Clone, Copy, Debug, PartialEq, Eq)]
@@ -25,8 +26,10 @@ pub enum Slot {
     Name(Kind),
     /// A queue pair that no `connect` line has named.
     Pair,
-    /// A queue pair on which no other thread posts.
+    /// A queue pair on whose send queue no other thread posts.
     Poster,
+    /// A queue pair on whose receive queue no other thread posts.
+    Receiver,
     /// A completion queue that no other thread polls.
     Poller,
     Number,
@@ -36,6 +39,8 @@ pub enum Slot {
     Operation,
     /// `-`, or letters of `csf` in this order: completion wanted, solicited, fence.
     Flags,
+    /// A scatter/gather entry.
+    Segment,
     /// The name of an actor, or it with `*` and a number of turns.
     Turns,
 }
@@ -49,13 +54,17 @@ impl Slot {
         ensures { result ≡ slots.is_formed self field.now }
     {
         match self {
-            Slot::NewName | Slot::Name(_) | Slot::Pair | Slot::Poster | Slot::Poller => {
-                is_name(field)
-            }
+            Slot::NewName
+            | Slot::Name(_)
+            | Slot::Pair
+            | Slot::Poster
+            | Slot::Receiver
+            | Slot::Poller => is_name(field),
             Slot::Number => is_digits(field),
             Slot::RecvLog => field.starts_with(b"rq:") && is_digits(after_rq(field)),
             Slot::Operation => field == b"nop".as_slice(),
             Slot::Flags => are_flags(field),
+            Slot::Segment => segment::is_formed(field),
             Slot::Turns => is_name(part(field, TIMES, 0)) && is_counted(field),
         }
     }
@@ -67,6 +76,7 @@ impl Slot {
         match self {
             Slot::Number => is_number(field),
             Slot::RecvLog => is_number(after_rq(field)),
+            Slot::Segment => segment::has_numbers(field),
             Slot::Turns => has_parts(field, TIMES, 1) || is_number(part(field, TIMES, 1)),
             _ => true,
         }

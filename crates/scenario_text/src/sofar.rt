@@ -4,15 +4,19 @@ use crate::fault::LimitName;
 use crate::keyword::Section;
 use crate::names::Names;
 use crate::scenario::Plan;
-use verbs_model::{Call, Connect, CqLine, EqLine, Name, Object, PdLine, QpLine, Request, Sequence};
+use verbs_model::{
+    Call, Connect, CqLine, EqLine, Name, Object, PdLine, QpLine, Receive, Request, Sequence,
+};
 
 /// What the next line stands in.
 #[derive(Clone, Copy, Debug, PartialEq, Eq)]
 pub enum Place {
     Outside,
     InThread,
-    /// After a post on this queue pair, whose requests follow.
+    /// After a `post` on this queue pair, whose requests follow.
     InPost(u32),
+    /// After a `recv` on this queue pair, whose receives follow.
+    InRecv(u32),
 }
 
 /// How a queue pair is used.
@@ -20,8 +24,10 @@ pub enum Place {
 pub struct PairUse {
     /// A `connect` line names it.
     pub connected: bool,
-    /// The number of the thread that posts on it.
+    /// The number of the thread that posts on its send queue.
     pub poster: Option<u32>,
+    /// The number of the thread that posts on its receive queue.
+    pub receiver: Option<u32>,
 }
 
 /// How a completion queue is used.
@@ -29,7 +35,7 @@ pub struct PairUse {
 pub struct QueueUse {
     /// The number of the thread that polls it.
     pub poller: Option<u32>,
-    /// How many more requests may complete into it.
+    /// How many more requests and receives may complete into it.
     pub room: u64,
 }
 
@@ -62,8 +68,10 @@ pub struct Sofar {
     pub place: Place,
     /// The calls of the thread whose end was not read.
     pub calls: Vec<Call>,
-    /// The requests of the post in which the next line stands.
+    /// The requests of the `post` in which the next line stands.
     pub requests: Vec<Request>,
+    /// The receives of the `recv` in which the next line stands.
+    pub receives: Vec<Receive>,
     pub plan: Plan,
     /// The first limit that was passed.
     pub passed: Option<Passed>,

@@ -4,7 +4,7 @@ use crate::{LimitName, Plan, PlanItem, Scenario, ScenarioFault, TextRule, parse_
 use std::alloc::Global;
 use std::process::Abort;
 use std::test::Fail;
-use verbs_model::{Body, Call, FIRST_QP, Op, Request};
+use verbs_model::{Body, Call, FIRST_QP, Op, Request, Sge};
 
 const FIRST: [&[u8]; 15] = [
     b"eq e 1",
@@ -192,7 +192,7 @@ fn empty_text_is_idle(rt: HostRuntime) -> Result<(), Fail> {
 
 /// A line, or lines, in the place of one of the first scenario, with the first bad line and the first rule
 /// that it breaks.
-const BAD: [(usize, &[u8], u32, TextRule); 78] = [
+const BAD: [(usize, &[u8], u32, TextRule); 98] = [
     (0, b"eq e", 1, TextRule::Form),
     (0, b"eq e 01", 1, TextRule::Number),
     (0, b"eq e 18446744073709551616", 1, TextRule::Number),
@@ -213,11 +213,10 @@ const BAD: [(usize, &[u8], u32, TextRule); 78] = [
     (1, b"pd 1", 2, TextRule::Form),
     (2, b"cq c 2 2 p 0", 3, TextRule::Name),
     (2, b"cq e 2 2 p 0", 3, TextRule::Double),
-    (2, b"cq c 2 2 e 1", 3, TextRule::NotBuilt),
     (2, b"cq c 2 2 e 01", 3, TextRule::Number),
     (2, b"cq c 2 2 e", 3, TextRule::Form),
-    (2, b"cq C 2 2 e 1", 3, TextRule::NotBuilt),
-    (3, b"qp q p c c 2 rq:1 1 1", 4, TextRule::NotBuilt),
+    (2, b"cq C 2 2 e 1", 3, TextRule::Form),
+    (3, b"qp q p c c 2 rq:1 1 01", 4, TextRule::Number),
     (3, b"qp q p c c 2 srq:s 1 0", 4, TextRule::NotBuilt),
     (3, b"qp q p c c 2 sq:0 1 0", 4, TextRule::Form),
     (3, b"qp q p c c 2 rq:00 1 0", 4, TextRule::Number),
@@ -244,7 +243,33 @@ const BAD: [(usize, &[u8], u32, TextRule); 78] = [
     (7, b"+ 7 nop", 8, TextRule::Form),
     (7, b"+ 7 nop - x", 8, TextRule::Form),
     (7, b"+ x nop -", 8, TextRule::Form),
-    (8, b"recv q", 9, TextRule::NotBuilt),
+    (8, b"recv q", 10, TextRule::Form),
+    (8, b"+ 8 #0000005a:0:8", 9, TextRule::Form),
+    (11, b"recv c", 12, TextRule::Name),
+    (11, b"recv x", 12, TextRule::Name),
+    (11, b"recv q q", 12, TextRule::Form),
+    (11, b"recv q\n+ 1 nop -", 13, TextRule::Form),
+    (11, b"recv q\n+ x", 13, TextRule::Form),
+    (11, b"recv q\n+ 01", 13, TextRule::Number),
+    (11, b"recv q\n+", 13, TextRule::Form),
+    (11, b"recv q\n+ 1 #0000005a:0", 13, TextRule::Form),
+    (11, b"recv q\n+ 1 #0000005a:0:8:0", 13, TextRule::Form),
+    (11, b"recv q\n+ 1 #0000005A:0:8", 13, TextRule::Form),
+    (11, b"recv q\n+ 1 #000005a:0:8", 13, TextRule::Form),
+    (11, b"recv q\n+ 1 #0000005a:00:8", 13, TextRule::Number),
+    (11, b"recv q\n+ 1 #00000100:0:0", 13, TextRule::Form),
+    (11, b"recv q\n+ 1 #00000100:00:0", 13, TextRule::Number),
+    (11, b"recv q\n+ 1 r:0:8", 13, TextRule::NotBuilt),
+    (11, b"recv q\n+ x r~5b:0:8", 13, TextRule::NotBuilt),
+    (11, b"recv q\n+ 1 r~5:0:8", 13, TextRule::Form),
+    (11, b"recv q\n+ 1\n+ 2\n+ x", 15, TextRule::NotBuilt),
+    (11, b"recv q\n+ 1\npost q", 14, TextRule::Side),
+    (
+        11,
+        b"recv q\n+ 1\nend\nthread d\nrecv q",
+        16,
+        TextRule::Side,
+    ),
     (9, b"end 1", 10, TextRule::Form),
     (9, b"schedule a", 10, TextRule::Form),
     (10, b"thread a", 11, TextRule::Double),
@@ -288,7 +313,7 @@ fn first_bad_line_and_its_first_rule(rt: HostRuntime) -> Result<(), Fail> {
 }
 
 /// The same with a quantity that passes its bound.
-const PASSED: [(usize, &[u8], LimitName, u64); 24] = [
+const PASSED: [(usize, &[u8], LimitName, u64); 28] = [
     (0, b"eq e 0", LimitName::Log, 0),
     (0, b"eq e 11", LimitName::Log, 11),
     (0, b"eq e 99999999999", LimitName::Log, 99999999999),
@@ -306,6 +331,25 @@ const PASSED: [(usize, &[u8], LimitName, u64); 24] = [
     (3, b"qp q p c c 9 rq:10 9 0", LimitName::Log, 9),
     (3, b"qp q p c c 2 rq:0 0 0", LimitName::Sges, 0),
     (3, b"qp q p c c 2 rq:0 9 0", LimitName::Sges, 9),
+    (2, b"cq c 2 2 e 4294967297", LimitName::Start, 4294967297),
+    (
+        3,
+        b"qp q p c c 2 rq:0 1 18446744073709551615",
+        LimitName::Start,
+        18446744073709551615,
+    ),
+    (
+        11,
+        b"recv q\n+ 1 #0000005a:0:8 #0000005a:8:8",
+        LimitName::Sges,
+        2,
+    ),
+    (
+        11,
+        b"recv q\n+ 1 #0000005a:0:4294967297",
+        LimitName::Length,
+        4294967297,
+    ),
     (11, b"poll c 0", LimitName::Poll, 0),
     (11, b"poll c 17", LimitName::Poll, 17),
     (12, b"drain c 0", LimitName::Drain, 0),
@@ -341,7 +385,7 @@ fn first_limit_and_its_value(rt: HostRuntime) -> Result<(), Fail> {
 
 #[test]
 fn bounds_are_within(rt: HostRuntime) -> Result<(), Fail> {
-    let good: [(usize, &[u8]); 12] = [
+    let good: [(usize, &[u8]); 17] = [
         (0, b"eq e 10"),
         (2, b"cq c 12 12 e 0"),
         (3, b"qp q p c c 0 rq:8 8 0"),
@@ -354,6 +398,11 @@ fn bounds_are_within(rt: HostRuntime) -> Result<(), Fail> {
         (14, b"rounds 349525"),
         (0, b"# a comment\n\neq e 1"),
         (4, b"eq f 1\npd f2\nconnect q q"),
+        (2, b"cq c 2 2 e 4294967296"),
+        (3, b"qp q p c c 2 rq:0 1 4294967296"),
+        (11, b"recv q\n+ 1\n+ 2"),
+        (11, b"recv q\n+ 1 #00000100:0:1"),
+        (11, b"recv q\n+ 1 #ffffffff:18446744073709551615:65536"),
     ];
     for (place, line) in &good {
         let text = changed(rt.alloc(), *place, line)?;
@@ -369,6 +418,9 @@ fn text_may_end_too_early(rt: HostRuntime) -> Result<(), Fail> {
     assert!(&rt; breaks(rt.alloc(), unended.as_slice(), 15, TextRule::Missing));
     let inside = first_lines(rt.alloc(), 0, 7)?;
     assert!(&rt; breaks(rt.alloc(), inside.as_slice(), 7, TextRule::Missing));
+    let mut receiving = first_lines(rt.alloc(), 0, 6)?;
+    receiving.extend_from_slice(b"recv q\n")?;
+    assert!(&rt; breaks(rt.alloc(), receiving.as_slice(), 7, TextRule::Missing));
     assert!(&rt; breaks(rt.alloc(), b"eq e 1\npd e", 2, TextRule::Double));
     assert!(&rt; breaks(rt.alloc(), b"eq e 1\n#", 2, TextRule::Missing));
     Ok(())
@@ -379,6 +431,153 @@ fn name_is_unknown_before_its_line(rt: HostRuntime) -> Result<(), Fail> {
     let headless = first_lines(rt.alloc(), 1, FIRST.len())?;
     assert!(&rt; breaks(rt.alloc(), headless.as_slice(), 2, TextRule::Name));
     assert!(&rt; breaks(rt.alloc(), b"arena 8\n", 1, TextRule::NotBuilt));
+    Ok(())
+}
+
+/// Two receives, the first with these segments, the second with none.
+fn receives_two(call: &Call, segments: &[Sge]) -> bool {
+    match call {
+        Call::Recv { qp, receives } => match receives.as_slice() {
+            [one, other] => {
+                *qp == FIRST_QP
+                    && one.id == 7
+                    && one.sges.as_slice() == segments
+                    && other.id == 8
+                    && other.sges.as_slice().is_empty()
+            }
+            _ => false,
+        },
+        _ => false,
+    }
+}
+
+#[test]
+fn receives_have_their_segments(rt: HostRuntime) -> Result<(), Fail> {
+    let text = text_of(
+        rt.alloc(),
+        &[
+            b"eq e 1",
+            b"pd p",
+            b"cq c 2 2 e 3",
+            b"qp q p c c 0 rq:8 2 65535",
+            b"thread a",
+            b"recv q",
+            b"+ 7 #0000005a:16:8 #89abcdef:0:0",
+            b"+ 8",
+            b"end",
+        ],
+    )?;
+    let scenario = parse_scenario(rt.alloc(), text.as_slice())?;
+    let lines = scenario.declared().lines();
+    match (lines.cqs.as_slice(), lines.qps.as_slice()) {
+        ([cq], [qp]) => assert_eq!(&rt; (cq.start, qp.start), (3, 65535)),
+        _ => panic!(&rt; "one completion queue and one queue pair"),
+    }
+    let segments = [
+        Sge {
+            key: 0x5a,
+            addr: 16,
+            len: 8,
+        },
+        Sge {
+            key: 0x89ab_cdef,
+            addr: 0,
+            len: 0,
+        },
+    ];
+    match scenario.programs() {
+        [program] => match program.as_slice() {
+            [recv] => assert!(&rt; receives_two(recv, &segments)),
+            _ => panic!(&rt; "one post of receives"),
+        },
+        _ => panic!(&rt; "one thread"),
+    }
+    Ok(())
+}
+
+/// Whether a receive with these segments, on a queue pair of two, passes this limit with this value.
+fn receive_passes(
+    alloc: Global,
+    segments: &[u8],
+    name: LimitName,
+    value: u64,
+) -> Result<bool, Fail> {
+    let mut text = text_of(
+        alloc,
+        &[
+            b"eq e 1",
+            b"pd p",
+            b"cq c 2 2 e 0",
+            b"qp q p c c 0 rq:0 2 0",
+            b"thread a",
+            b"recv q",
+        ],
+    )?;
+    text.extend_from_slice(b"+ 1")?;
+    text.extend_from_slice(segments)?;
+    text.extend_from_slice(b"\nend\n")?;
+    Ok(passes(alloc, text.as_slice(), name, value))
+}
+
+#[test]
+fn limits_of_segments_are_tested_from_left_to_right(rt: HostRuntime) -> Result<(), Fail> {
+    let cases: [(&[u8], LimitName, u64); 4] = [
+        (
+            b" #00000001:0:65536 #00000001:0:1",
+            LimitName::Length,
+            65537,
+        ),
+        (
+            b" #00000001:0:65537 #00000001:0:1 #00000001:0:1",
+            LimitName::Length,
+            65537,
+        ),
+        (
+            b" #00000001:0:1 #00000001:0:1 #00000001:0:65537",
+            LimitName::Sges,
+            3,
+        ),
+        (
+            b" #00000001:0:1 #00000001:0:18446744073709551615",
+            LimitName::Length,
+            18446744073709551615,
+        ),
+    ];
+    for (segments, name, value) in &cases {
+        assert!(&rt; receive_passes(rt.alloc(), segments, *name, *value)?);
+    }
+    Ok(())
+}
+
+#[test]
+fn words_come_before_notes(rt: HostRuntime) -> Result<(), Fail> {
+    let mut text = text_of(rt.alloc(), &[b"eq e 6"])?;
+    for letter in b'a'..=b'p' {
+        for digit in b'0'..=b'1' {
+            text.extend_from_slice(b"cq ")?;
+            text.push(letter)?;
+            text.push(digit)?;
+            text.extend_from_slice(b" 12 12 e 0\n")?;
+        }
+    }
+    assert!(&rt; passes(rt.alloc(), text.as_slice(), LimitName::Words, 2115202));
+    text.extend_from_slice(b"thread t\n")?;
+    for _ in 0..11 {
+        text.extend_from_slice(b"drain a0 65536\n")?;
+    }
+    text.extend_from_slice(b"end\n")?;
+    assert!(&rt; passes(rt.alloc(), text.as_slice(), LimitName::Words, 2115202));
+    Ok(())
+}
+
+#[test]
+fn weight_has_its_limit(rt: HostRuntime) -> Result<(), Fail> {
+    let mut text = text_of(rt.alloc(), &[b"eq e 6", b"cq c 12 12 e 0", b"thread a"])?;
+    for _ in 0..11 {
+        text.extend_from_slice(b"drain c 65536\n")?;
+    }
+    text.extend_from_slice(b"end\n")?;
+    assert!(&rt; passes(rt.alloc(), text.as_slice(), LimitName::Notes, 4326568));
     Ok(())
 }
 

@@ -1,7 +1,7 @@
 //! The names and numbers in the places of a line.
 ghost use Rattle.std.specs.Prelude.{◌≡◌, IfOk};
-ghost use Rattle.scenario_text.specs.After as after;
 ghost use Rattle.scenario_text.specs.Bounds.{recv_log_at, size_of};
+ghost use Rattle.scenario_text.specs.Text as text;
 ghost use Rattle.scenario_text.specs.Text.{split, number_at};
 
 use crate::lines::read_number;
@@ -12,7 +12,7 @@ use verbs_model::Name;
 
 /// The name that a line gives.
 pub fn name(alloc: Global, line: &[u8]) -> Result<Name, AllocError>
-    ensures { IfOk result (λ name. name ≡ after.name_in (split 32 line.now)) }
+    ensures { IfOk result (λ name. name ≡ text.name_in (split 32 line.now)) }
 {
     match Name::new(alloc, part(line, SPACE, 1)) {
         Ok(name) => Ok(name),
@@ -29,7 +29,7 @@ pub fn number(line: &[u8], place: usize) -> u64
 
 /// The same, where it is below 2^32, else 2^32 - 1, which passes every limit of such a number.
 pub fn small(line: &[u8], place: usize) -> u32
-    ensures { result ≡ after.small_at (split 32 line.now) place }
+    ensures { result ≡ text.small_at (split 32 line.now) place }
 {
     saturated(number(line, place))
 }
@@ -42,7 +42,7 @@ pub fn recv_log(line: &[u8]) -> u64
 
 /// The same number, where it is below 2^32, else 2^32 - 1.
 pub fn saturated(number: u64) -> u32
-    ensures { result ≡ after.small number }
+    ensures { result ≡ text.small number }
 {
     u32::try_from(number).unwrap_or(u32::MAX)
 }

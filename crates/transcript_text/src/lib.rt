@@ -14,11 +14,13 @@ mod names;
 mod queue_row;
 mod request;
 mod row;
+mod run;
 mod trace;
 mod writer;
 
 pub use head::put_head;
 pub use history::{print_history, put_history};
+pub use run::print_run;
 pub use trace::print_trace;
 pub use writer::TextWriter;
 

@@ -55,7 +55,7 @@ fn most_after_actor(op: BusOp) -> usize {
     }
 }
 
-fn put_trace(
+pub(crate) fn put_trace(
     out: &mut TextWriter,
     lines: &Lines,
     trace: &[BusEntry],

@@ -1,167 +1,275 @@
--- What the turns of threads read and write, as the lemmas on their entries want it.
-use Rattle.std.proofs.Common.{◌≡◌, ℕ, suc, ◌+◌, ◌-◌, ◌<◌, ◌≤◌, List, [], length, take, sym, ◌∙◌, ap, subst, arith, Some, slice_get, slice_index_or, slice_set, min}
+-- What holds of a run, after one more turn.
+use Rattle.std.proofs.Common.{◌≡◌, ◌≢◌, ◌∙◌, refl, sym, ap, subst, arith, inl, inr, ℕ, zero, suc, ◌+◌, ◌-◌, ◌*◌, ◌<◌, ◌≤◌, ◌^◌, ◌==◌, eqb, ◌++◌, true, false, List, [], ◌∷◌, length, map, length-append, Option, None, Some, option_map, slice_get, slice_set, length-set}
+use Rattle.std.specs.List.{fold}
+use Rattle.std.proofs.lemmas.Bool.Decides.{eqb_tells}
+use Rattle.std.proofs.lemmas.List.{map-append}
+use Rattle.bus_core.specs.declared.operation.BusEntry.{BusEntry}
+use Rattle.bus_core.specs.declared.turn.Note.{Note}
+use Rattle.bus_core.specs.Mark.{Marked, entries}
+use Rattle.bus_core.specs.Plain.{Plain}
+use Rattle.bus_core.proofs.Following.{fold-push}
 use Rattle.verbs_model.specs.declared.call.Call.{Call}
-use Rattle.verbs_model.specs.declared.call.Call.TheVariants.{Poll as PollCall}
+use Rattle.verbs_model.specs.declared.completion.Queue.{Queue}
 use Rattle.verbs_model.specs.declared.declaration.Lines.{Lines}
-use Rattle.verbs_model.specs.declared.request.Request.{Request}
-use Rattle.world_core.specs.declared.run.Now.{Now}
-use Rattle.world_core.specs.declared.run.Now.TheVariants.{Free, Accept}
-use Rattle.world_core.specs.declared.run.Progress.{Progress}
-use Rattle.world_core.specs.declared.turn.Made.TheVariants.{Poll as PollMade, Post as PostMade, Full}
-use Rattle.world_core.specs.Decoding.{call_at, pair_at, requests_at}
-use Rattle.verbs_model.specs.State.{free_of}
-use Rattle.world_core.specs.Kept.{Sends, Completes, no_sends, no_completes, appended, left_of, polling}
-use Rattle.world_core.specs.Machine.{at_call}
-use Rattle.world_core.specs.Moves.{accepting_now, settled_now, next_of, ended, CanEnd}
-use Rattle.world_core.specs.Sound.{Sound}
-use Rattle.world_core.specs.Steps.{Steps, IsDraining, IsFreeAt, IsPollAt, IsPostAt}
-use Rattle.world_core.specs.View.{View, place_of, sends_at, completes_at, with_sends, with_progress}
-use Rattle.world_core.proofs.Entries.{AtThread, stands_there, any_default}
-use Rattle.world_core.proofs.Posting.{post_here, whole_steps, full_steps, accept_here, accept_room, accept_steps}
-use Rattle.world_core.proofs.Settling.{poll_live, poll_steps, drain_live, drain_steps}
-use Rattle.world_core.proofs.Polling.{next_ends}
-use Rattle.world_core.proofs.Tabling.{completes_low}
+use Rattle.verbs_model.specs.declared.entry.Entry.{Entry}
+use Rattle.verbs_model.specs.declared.entry.What.{What}
+use Rattle.verbs_model.specs.declared.request.Item.{Item}
+use Rattle.actor_map.specs.Notes.{note_of}
+use Rattle.object_places.specs.Objects.{Mark}
+use Rattle.owner_ring.specs.Consumer.{Consumer, Waiting, Reading}
+use Rattle.device_engine.specs.Counts.{CountsBelow, CountsGrow}
+use Rattle.device_engine.specs.Event.{AdapterEvent, Fetched, Published, notes}
+use Rattle.device_engine.specs.Rule.{adapter_mark, MayAdapt, after_adapt, adapter_says}
+use Rattle.device_engine.specs.State.{AdapterRule}
+use Rattle.device_engine.specs.View.{ScanView, rule_of, seen_of}
+use Rattle.actor_rules.specs.Actors.{Actors, May, MayAny, MayAdapter, Knows, part, after, after_by, says, what_of, by, adapter_entry}
+use Rattle.actor_rules.specs.Calls.{MayThread, after_thread, thread_says}
+use Rattle.actor_rules.specs.Thread.{Thread}
+use Rattle.actor_rules.proofs.Threading.{put_here, put_there}
+use Rattle.scenario_text.specs.declared.scenario.ScenarioParts.{ScenarioParts}
+use Rattle.thread_actor.specs.Small.{IsPosterBelow, IsHostBelow, IsBelow}
+use Rattle.thread_actor.specs.Turn.{marked, IsNoteOf}
+use Rattle.thread_actor.specs.View.{ThreadView, thread_of}
+use Rattle.thread_actor.proofs.Places.{set_here, set_there}
+use Rattle.noted_history.specs.declared.log.Made.{Made as MadeBy}
+use Rattle.noted_history.specs.declared.log.Made.TheVariants.{Nothing}
+use Rattle.noted_history.specs.declared.log.Turn.{Turn}
+use Rattle.world_core.specs.Holding.{actors_after, low_after, IsAdapter, IsThreadOf, Made, Stand, HasBus, Holds}
+use Rattle.world_core.specs.Outcome.{Makes, Passes, has_ended}
+use Rattle.world_core.specs.Run.{RunView, AdapterMoves, ThreadMoves, ThreadRests, made_of, with_operation, with_turn}
+use Rattle.world_core.proofs.Moving.{Fits, made_passes, made_moves}
 
--- what was read at a place is what stands there
-pub read_sends : (ss : List Sends) (k : ℕ) (s : Sends) → k < length ss → s ≡ slice_index_or ss k s → s ≡ sends_at ss k
-read_sends ss k s low read = read ∙ any_default ss k s no_sends low
+-- Counts
 
-pub read_completes : (cs : List Completes) (k : ℕ) (c : Completes) → k < length cs → c ≡ slice_index_or cs k c → c ≡ completes_at cs k
-read_completes cs k c low read = read ∙ any_default cs k c no_completes low
+weaken_host : (m n : ℕ) (c : Consumer) → m ≤ n → IsHostBelow m c → IsHostBelow n c
+weaken_host m n (Waiting acked next) le low = omega (arith, le, low)
+weaken_host m n (Reading acked next index last words) le low = (omega (arith, le, low.0), omega (arith, le, low.1))
 
--- the call that was read at a place of the thread's program
-pub call_read : (programs : List (List Call)) (t n : ℕ) (calls : List Call) (x c : Call) → calls ≡ slice_index_or programs t [] → n < length calls → x ≡ slice_index_or calls n x → x ≡ c → call_at (slice_index_or programs t []) n ≡ c
-call_read programs t n calls x c same low read is =
-    ap (λ (cs : List Call). call_at cs n) (sym same) ∙ any_default calls n (PollCall 0 1) x low ∙ sym read ∙ is
+pub weaken_thread : (m n : ℕ) (t : Thread) → m ≤ n → IsBelow m t → IsBelow n t
+weaken_thread m n t le low = record {
+  posters = λ (queue : Queue). record { count = omega (arith, le, (low.posters queue).count); index = omega (arith, le, (low.posters queue).index) };
+  polls = λ (cq : ℕ). weaken_host m n (t.polls cq).host le (low.polls cq);
+}
 
-pub low_there : (programs : List (List Call)) (t n : ℕ) (calls : List Call) → calls ≡ slice_index_or programs t [] → n < length calls → n < length (slice_index_or programs t [])
-low_there programs t n calls same low = subst (λ (cs : List Call). n < length cs) same low
+pub weaken_adapter : (m n : ℕ) (s : AdapterRule) → m ≤ n → CountsBelow m s → CountsBelow n s
+weaken_adapter m n s le low = record {
+  requests = λ (qp : ℕ). omega (arith, le, low.requests qp);
+  taken = λ (qp : ℕ). omega (arith, le, low.taken qp);
+  completions = λ (cq : ℕ). omega (arith, le, low.completions cq);
+}
 
-module _ (d : Lines) (programs : List (List Call)) (w : View) (sound : Sound d programs w) where
-  -- a poll
+one_more : (turns : List Turn) (actor : ℕ) (made : MadeBy) → length (with_turn turns actor made) ≡ length turns + 1
+one_more turns actor made = length-append turns (record { actor = actor; made = made } ∷ [])
 
-  module _ (t n cq most : ℕ) (free : IsFreeAt w t n) (poll : IsPollAt (slice_index_or programs t []) n cq most) where
-    abbrev polled : Completes
-    polled = completes_at w.completions cq
+low_next : (turns : List Turn) (actor : ℕ) (made : MadeBy) → low_after (length turns) + 64 ≡ low_after (length (with_turn turns actor made))
+low_next turns actor made = omega (arith, one_more turns actor made)
 
-    pub poll_low : cq < length w.completions
-    poll_low = completes_low d w cq (poll_live d programs w sound t n cq most free poll)
+low_rises : (turns : List Turn) (actor : ℕ) (made : MadeBy) → low_after (length turns) ≤ low_after (length (with_turn turns actor made))
+low_rises turns actor made = omega (arith, one_more turns actor made)
 
-    pub poll_ends : CanEnd w.queues (next_of polled most)
-    poll_ends = next_ends d programs w sound cq most (poll_live d programs w sound t n cq most free poll)
+-- What is as before
 
-    pub poll_takes : (first count next : ℕ) (now : Now) (w1 w' : View) → first ≡ polled.polled → count ≡ min most (left_of polled) → next ≡ n + 1 → now ≡ settled_now cq first count
-        → w1 ≡ record w { queues = ended w.queues (next_of polled most); completions = slice_set w.completions cq (polling polled count) }
-        → w' ≡ with_progress w1 t (record { now = now; to_drain = 0; drained = cq; next = next })
-        → Steps d programs w (suc t) (Some (PollMade cq most first count)) w'
-    poll_takes first count next now w1 w' first_is count_is next_is now_is one two =
-        subst (λ k. Steps d programs w (suc t) (Some (PollMade cq most k count)) w') (sym first_is)
-        (subst (λ k. Steps d programs w (suc t) (Some (PollMade cq most polled.polled k)) w') (sym count_is)
-        (poll_steps d programs w sound t n cq most free poll w1 w'
-        (one ∙ ap (λ k. record w { queues = ended w.queues (next_of polled most); completions = slice_set w.completions cq (polling polled k) }) count_is)
-        (two
-        ∙ ap (λ (x : Now). with_progress w1 t (record { now = x; to_drain = 0; drained = cq; next = next })) (now_is ∙ ap (λ k. settled_now cq k count) first_is ∙ ap (settled_now cq polled.polled) count_is)
-        ∙ ap (λ k. with_progress w1 t (record { now = settled_now cq polled.polled (min most (left_of polled)); to_drain = 0; drained = cq; next = k })) next_is)))
+thread_stays : (d : Lines) (w w' : Actors) (turns turns' actor : ℕ) (v : ThreadView) → low_after turns ≤ low_after turns' → w'.threads actor ≡ w.threads actor → IsThreadOf d w turns actor v → IsThreadOf d w' turns' actor v
+thread_stays d w w' turns turns' actor v le same stands = record {
+  lines = stands.lines;
+  number = stands.number;
+  rule = stands.rule ∙ sym same;
+  low = weaken_thread (low_after turns) (low_after turns') (thread_of v) le stands.low;
+}
 
-  -- a drain
+adapter_stays : (d : Lines) (w w' : Actors) (turns turns' : ℕ) (v : ScanView) → low_after turns ≤ low_after turns' → w'.adapter ≡ w.adapter → IsAdapter d w turns v → IsAdapter d w' turns' v
+adapter_stays d w w' turns turns' v le same stands = record {
+  declared = stands.declared;
+  rule = stands.rule ∙ sym same;
+  low = weaken_adapter (low_after turns) (low_after turns') (rule_of v) le stands.low;
+}
 
-  module _ (t cq drains n : ℕ) (stands : IsDraining w t cq drains n) (some : 0 < drains) where
-    abbrev drained : Completes
-    drained = completes_at w.completions cq
+-- all actors after one more operation of this one
+actors_more : (s : ScenarioParts) (trace : List (Marked Mark)) (x : Marked Mark) (actor : ℕ) → x.entry.actor ≡ actor → actors_after s.lines s.programs (trace ++ x ∷ []) ≡ after_by s.lines (actors_after s.lines s.programs trace) actor x
+actors_more s trace x actor same = fold-push (after s.lines) _ trace x ∙ ap (λ (k : ℕ). after_by s.lines (actors_after s.lines s.programs trace) k x) same
 
-    pub drain_low : cq < length w.completions
-    drain_low = completes_low d w cq (drain_live d programs w sound t cq drains n stands some)
+-- what an operation says, made by this actor
+abbrev said_by : Lines → Actors → ℕ → Marked Mark → Option Entry
+said_by d w actor x = option_map (by actor) (what_of d w actor x)
 
-    pub drain_ends : CanEnd w.queues (next_of drained 1)
-    drain_ends = next_ends d programs w sound cq 1 (drain_live d programs w sound t cq drains n stands some)
+-- The bus
 
-    pub drain_takes : (first count : ℕ) (now : Now) (w1 w' : View) → drained.polled < length drained.published → first ≡ drained.polled → count ≡ min 1 (left_of drained) → now ≡ settled_now cq first count
-        → w1 ≡ record w { queues = ended w.queues (next_of drained 1); completions = slice_set w.completions cq (polling drained count) }
-        → w' ≡ with_progress w1 t (record { now = now; to_drain = drains - 1; drained = cq; next = n })
-        → Steps d programs w (suc t) (Some (PollMade cq 1 first count)) w'
-    drain_takes first count now w1 w' more first_is count_is now_is one two =
-        subst (λ k. Steps d programs w (suc t) (Some (PollMade cq 1 k count)) w') (sym first_is)
-        (subst (λ k. Steps d programs w (suc t) (Some (PollMade cq 1 drained.polled k)) w') (sym count_is)
-        (drain_steps d programs w sound t cq drains n stands some w1 w' more
-        (one ∙ ap (λ k. record w { queues = ended w.queues (next_of drained 1); completions = slice_set w.completions cq (polling drained k) }) count_is)
-        (two ∙ ap (λ (x : Now). with_progress w1 t (record { now = x; to_drain = drains - 1; drained = cq; next = n })) (now_is ∙ ap (λ k. settled_now cq k count) first_is ∙ ap (settled_now cq drained.polled) count_is))))
+module _ (s : ScenarioParts) (old new : RunView) (trace : List (Marked Mark)) (actor : ℕ) (x : Marked Mark) (made : MadeBy) where
+  bus_moves : HasBus s old trace → new.bus ≡ with_operation old.bus actor x.entry → new.turns ≡ with_turn old.turns actor made → new.capacity ≡ old.capacity → HasBus s new (trace ++ x ∷ [])
+  bus_moves h bus turns capacity =
+      let room : new.bus.room ≡ old.bus.room - 1 = ap (λ (b : Plain). b.room) bus in
+      let long : length new.turns ≡ length old.turns + 1 = ap (λ (ts : List Turn). length ts) turns ∙ one_more old.turns actor made in
+      record {
+        start = ap (λ (b : Plain). b.start) bus ∙ h.start;
+        words = ap (λ (b : Plain). length b.start) bus ∙ h.words;
+        operations = map-append (λ (y : Marked Mark). y.entry) trace (x ∷ []) ∙ ap (λ (es : List BusEntry). es ++ x.entry ∷ []) h.operations ∙ sym (ap (λ (b : Plain). b.trace) bus);
+        room = omega (arith, room, long, h.room);
+        turns = omega (arith, capacity, h.turns);
+      }
 
-  -- a post
+-- The adapter
 
-  module _ (t n qp : ℕ) (rs : List Request) (free : IsFreeAt w t n) (post : IsPostAt (slice_index_or programs t []) n qp rs) where
-    abbrev sends : Sends
-    sends = sends_at w.queues (place_of qp)
+adapter_fits : (posted : Queue → List Item) (seen : ℕ → ℕ) (said : Option AdapterEvent) (note : Option Note) → note ≡ notes seen said → Fits 0 (option_map (by 0) (option_map (adapter_entry posted) said)) note
+adapter_fits posted seen None n is = is
+adapter_fits posted seen (Some (Fetched qp number)) n is = (refl, number, is)
+adapter_fits posted seen (Some (Published cq completion number index)) n is = (refl, seen cq, is)
 
-    pub post_low : place_of qp < length w.queues
-    post_low = (post_here d programs w sound t n qp rs free post).place.low
+module _ (s : ScenarioParts) (old new : RunView) (h : Holds s old) (m : AdapterMoves old new) (grow : CountsGrow) where
+  abbrev w : Actors
+  w = actors_after s.lines s.programs h.trace
 
-    -- the queue that was read
-    pub post_read : (place : ℕ) (s : Sends) → place ≡ place_of qp → s ≡ slice_index_or w.queues place s → s ≡ sends
-    post_read place s same read = read_sends w.queues (place_of qp) s post_low (read ∙ ap (λ k. slice_index_or w.queues k s) same)
+  abbrev x : Marked Mark
+  x = marked m.entry (adapter_mark s.lines w.adapter)
 
-    pub whole_takes : (count next pending : ℕ) (p : Progress) (w1 w' : View) → count ≡ length rs → pending ≡ free_of sends.queue → count ≤ pending → next ≡ n + 1 → p ≡ at_call next → w1 ≡ with_sends w (place_of qp) (appended sends rs) → w' ≡ with_progress w1 t p
-        → Steps d programs w (suc t) (Some (PostMade n count)) w'
-    whole_takes count next pending p w1 w' count_is pending_is fits next_is p_is one two =
-        subst (λ k. Steps d programs w (suc t) (Some (PostMade n k)) w') (sym count_is)
-        (whole_steps d programs w sound t n qp rs free post w1 w' (omega (arith, count_is, pending_is, fits)) one (two ∙ ap (with_progress w1 t) (p_is ∙ ap at_call next_is)))
+  rule_is : (P : Lines → AdapterRule → Type 0) → P old.adapter.declared (rule_of old.adapter) → P s.lines w.adapter
+  rule_is P p = subst (P s.lines) h.stand.adapter.rule (subst (λ (d : Lines). P d (rule_of old.adapter)) h.stand.adapter.declared p)
 
-    pub full_takes : (next pending head tail : ℕ) (now : Now) (p : Progress) (w' : View) → pending ≡ free_of sends.queue → head ≡ length sends.queue.posted + pending → tail ≡ sends.queue.retired → pending < length rs → next ≡ n + 1 → now ≡ accepting_now n pending → p ≡ at_call next
-        → w' ≡ with_progress w t (record p { now = now })
-        → Steps d programs w (suc t) (Some (Full n pending head tail)) w'
-    full_takes next pending head tail now p w' pending_is head_is tail_is less next_is now_is p_is two =
-        subst (λ k. Steps d programs w (suc t) (Some (Full n pending head k)) w') (sym tail_is)
-        (subst (λ k. Steps d programs w (suc t) (Some (Full n pending k sends.queue.retired)) w') (sym head_is)
-        (subst (λ k. Steps d programs w (suc t) (Some (Full n k (length sends.queue.posted + k) sends.queue.retired)) w') (sym pending_is)
-        (full_steps d programs w sound t n qp rs free post w' (omega (arith, pending_is, less))
-        (two
-        ∙ ap (λ (x : Now). with_progress w t (record p { now = x })) (now_is ∙ ap (accepting_now n) pending_is)
-        ∙ ap (λ (x : Progress). with_progress w t (record x { now = accepting_now n (free_of sends.queue) })) (p_is ∙ ap at_call next_is)))))
+  may : MayAny s.lines w x
+  may = subst (λ (k : ℕ). May s.lines k (part k w) x) (sym m.by) (record { mark_is = refl; goes_on = rule_is (λ (d : Lines) (r : AdapterRule). MayAdapt d r m.entry) m.turn.may })
 
-  -- what was accepted
+  fits : Fits 0 (says s.lines w x) m.note
+  fits = subst (λ (k : ℕ). Fits 0 (said_by s.lines w k x) m.note) (sym m.by)
+      (adapter_fits w.posted (seen_of new.adapter) (adapter_says s.lines w.adapter m.entry) m.note
+      (rule_is (λ (d : Lines) (r : AdapterRule). m.note ≡ notes (seen_of new.adapter) (adapter_says d r m.entry)) m.turn.note_is))
 
-  module _ (t call count : ℕ) (p : Progress) (stands : slice_get w.threads t ≡ Some p) (now : p.now ≡ Accept call count) (calls : List Call) (same : calls ≡ slice_index_or programs t []) where
-    abbrev there : AtThread w t p
-    there = stands_there w t p stands
+  now : actors_after s.lines s.programs (h.trace ++ x ∷ []) ≡ after_by s.lines w 0 x
+  now = actors_more s h.trace x 0 m.by
 
-    abbrev kept : List Request
-    kept = take (min count (length (requests_at calls call))) (requests_at calls call)
+  rises : low_after (length old.turns) ≤ low_after (length new.turns)
+  rises = subst (λ (ts : List Turn). low_after (length old.turns) ≤ low_after (length ts)) (sym m.turns) (low_rises old.turns 0 (made_of m.note))
 
-    pub accept_low : place_of (pair_at calls call) < length w.queues
-    accept_low = subst (λ (cs : List Call). place_of (pair_at cs call) < length w.queues) (sym same) (accept_here d programs w sound t call count p there now).place.low
+  low : CountsBelow (low_after (length new.turns)) (after_adapt s.lines w.adapter m.entry)
+  low =
+      let up : low_after (length old.turns) + 4 ≤ low_after (length new.turns) = omega (arith, ap (λ (ts : List Turn). length ts) m.turns, one_more old.turns 0 (made_of m.note)) in
+      weaken_adapter (low_after (length old.turns) + 4) (low_after (length new.turns)) (after_adapt s.lines w.adapter m.entry) up
+      (grow.next s.lines w.adapter m.entry (low_after (length old.turns)) (subst (CountsBelow (low_after (length old.turns))) h.stand.adapter.rule h.stand.adapter.low))
 
-    pub accept_fits : length (sends_at w.queues (place_of (pair_at calls call))).queue.posted + length kept ≤ (sends_at w.queues (place_of (pair_at calls call))).posted_room
-    accept_fits =
-        subst (λ (cs : List Call). length (sends_at w.queues (place_of (pair_at cs call))).queue.posted + length (take (min count (length (requests_at cs call))) (requests_at cs call)) ≤ (sends_at w.queues (place_of (pair_at cs call))).posted_room) (sym same)
-        (accept_room d programs w sound t call count p there now)
+  moved : IsAdapter s.lines (after_by s.lines w 0 x) (length new.turns) new.adapter
+  moved =
+      let goes : rule_of new.adapter ≡ after_adapt s.lines w.adapter m.entry = rule_is (λ (d : Lines) (r : AdapterRule). rule_of new.adapter ≡ after_adapt d r m.entry) m.turn.rule in record {
+        declared = m.turn.declared ∙ h.stand.adapter.declared;
+        rule = goes;
+        low = subst (CountsBelow (low_after (length new.turns))) (sym goes) low;
+      }
 
-    pub accept_takes : (w1 w' : View) → w1 ≡ with_sends w (place_of (pair_at calls call)) (appended (sends_at w.queues (place_of (pair_at calls call))) kept) → w' ≡ with_progress w1 t (record { now = Free; to_drain = p.to_drain; drained = p.drained; next = p.next })
-        → Steps d programs w (suc t) (Some (PostMade call (min count (length (requests_at calls call))))) w'
-    accept_takes w1 w' one two =
-        subst (λ (cs : List Call). w1 ≡ with_sends w (place_of (pair_at cs call)) (appended (sends_at w.queues (place_of (pair_at cs call))) (take (min count (length (requests_at cs call))) (requests_at cs call))) → Steps d programs w (suc t) (Some (PostMade call (min count (length (requests_at cs call))))) w') (sym same)
-        (λ first. accept_steps d programs w sound t call count p there now w1 w' first two)
-        one
+  others : (t : ℕ) (thread : ThreadView) → slice_get new.threads t ≡ Some thread → IsThreadOf s.lines (after_by s.lines w 0 x) (length new.turns) (suc t) thread
+  others t thread there = thread_stays s.lines w (after_by s.lines w 0 x) (length old.turns) (length new.turns) (suc t) thread rises refl
+      (h.stand.threads t thread (ap (λ (ts : List ThreadView). slice_get ts t) (sym m.threads) ∙ there))
 
-    -- the same of what was read
-    module _ (qp m : ℕ) (rs : List Request) (qp_is : qp ≡ pair_at calls call) (rs_is : rs ≡ requests_at calls call) (m_is : m ≡ min count (length rs)) where
-      m_there : m ≡ min count (length (requests_at calls call))
-      m_there = m_is ∙ ap (λ (xs : List Request). min count (length xs)) rs_is
+  pub adapter_holds : Holds s new
+  adapter_holds = record {
+    trace = h.trace ++ x ∷ [];
+    made = subst (λ (ts : List Turn). Made s ts (h.trace ++ x ∷ [])) (sym m.turns) (made_moves s old.turns h.trace h.made 0 x m.note may (record { going = refl; by = m.by }) fits);
+    stand = record {
+      adapter = subst (λ (v : Actors). IsAdapter s.lines v (length new.turns) new.adapter) (sym now) moved;
+      thread_count = ap (λ (ts : List ThreadView). length ts) m.threads ∙ h.stand.thread_count;
+      threads = λ (t : ℕ) (thread : ThreadView) there. subst (λ (v : Actors). IsThreadOf s.lines v (length new.turns) (suc t) thread) (sym now) (others t thread there);
+    };
+    bus = bus_moves s old new h.trace 0 x (made_of m.note) h.bus m.bus m.turns m.capacity;
+  }
 
-      kept_is : take m rs ≡ kept
-      kept_is = ap (λ k. take k rs) m_there ∙ ap (take (min count (length (requests_at calls call)))) rs_is
+-- A thread that goes on
 
-      pub accepted_low : place_of qp < length w.queues
-      accepted_low = subst (λ k. place_of k < length w.queues) (sym qp_is) accept_low
+thread_fits : (actor : ℕ) (said : Option What) (note : Option Note) → IsNoteOf said note → Fits actor (option_map (by actor) said) note
+thread_fits actor None n is = is
+thread_fits actor (Some what) n is = (refl, is.0, is.1)
 
-      pub accepted_fits : length (sends_at w.queues (place_of qp)).queue.posted + length (take m rs) ≤ (sends_at w.queues (place_of qp)).posted_room
-      accepted_fits =
-          subst (λ k. length (sends_at w.queues (place_of k)).queue.posted + length (take m rs) ≤ (sends_at w.queues (place_of k)).posted_room) (sym qp_is)
-          (subst (λ (xs : List Request). length (sends_at w.queues (place_of (pair_at calls call))).queue.posted + length xs ≤ (sends_at w.queues (place_of (pair_at calls call))).posted_room) (sym kept_is) accept_fits)
+module _ (s : ScenarioParts) (old new : RunView) (t : ℕ) (h : Holds s old) (m : ThreadMoves old new t) where
+  abbrev before_all : Actors
+  before_all = actors_after s.lines s.programs h.trace
 
-      pub accepted_takes : (w1 w' : View) → w1 ≡ with_sends w (place_of qp) (appended (sends_at w.queues (place_of qp)) (take m rs)) → w' ≡ with_progress w1 t (record { now = Free; to_drain = p.to_drain; drained = p.drained; next = p.next }) → Steps d programs w (suc t) (Some (PostMade call m)) w'
-      accepted_takes w1 w' one two =
-          subst (λ k. Steps d programs w (suc t) (Some (PostMade call k)) w') (sym m_there)
-          (accept_takes w1 w'
-          (one
-          ∙ ap (λ k. with_sends w (place_of k) (appended (sends_at w.queues (place_of k)) (take m rs))) qp_is
-          ∙ ap (λ (xs : List Request). with_sends w (place_of (pair_at calls call)) (appended (sends_at w.queues (place_of (pair_at calls call))) xs)) kept_is)
-          two)
+  abbrev y : Marked Mark
+  y = marked m.entry m.turn.mark
+
+  stood : IsThreadOf s.lines before_all (length old.turns) (suc t) m.before
+  stood = h.stand.threads t m.before m.found
+
+  thread_is : (P : Lines → Thread → Type 0) → P m.before.lines (thread_of m.before) → P s.lines (before_all.threads (suc t))
+  thread_is P p = subst (P s.lines) stood.rule (subst (λ (d : Lines). P d (thread_of m.before)) stood.lines p)
+
+  may_thread : MayAny s.lines before_all y
+  may_thread = subst (λ (k : ℕ). May s.lines k (part k before_all) y) (sym m.by)
+      (subst (λ (k : ℕ). MayThread s.lines (before_all.threads (suc t)) k y) stood.number
+      (thread_is (λ (d : Lines) (r : Thread). MayThread d r m.before.number y) m.turn.may))
+
+  makes : Makes before_all (suc t) y
+  makes = record { going = ap (λ (r : Thread). r.ended) (sym stood.rule) ∙ m.going; by = m.by }
+
+  fits_thread : Fits (suc t) (says s.lines before_all y) m.note
+  fits_thread = subst (λ (k : ℕ). Fits (suc t) (said_by s.lines before_all k y) m.note) (sym m.by)
+      (thread_fits (suc t) (thread_says s.lines (before_all.threads (suc t)) y) m.note
+      (thread_is (λ (d : Lines) (r : Thread). IsNoteOf (thread_says d r y) m.note) m.turn.noted))
+
+  now_all : actors_after s.lines s.programs (h.trace ++ y ∷ []) ≡ after_by s.lines before_all (suc t) y
+  now_all = actors_more s h.trace y (suc t) m.by
+
+  up : low_after (length old.turns) + 64 ≡ low_after (length new.turns)
+  up = low_next old.turns (suc t) (made_of m.note) ∙ ap (λ (ts : List Turn). low_after (length ts)) (sym m.turns)
+
+  higher : low_after (length old.turns) ≤ low_after (length new.turns)
+  higher = omega (arith, up)
+
+  here : IsThreadOf s.lines (after_by s.lines before_all (suc t) y) (length new.turns) (suc t) m.after
+  here = record {
+    lines = m.turn.same.lines ∙ stood.lines;
+    number = m.turn.same.number ∙ stood.number;
+    rule = thread_is (λ (d : Lines) (r : Thread). thread_of m.after ≡ after_thread d r y) m.turn.goes ∙ sym (put_here before_all.threads (suc t) (after_thread s.lines (before_all.threads (suc t)) y));
+    low = subst (λ n. IsBelow n (thread_of m.after)) up (m.turn.rises (low_after (length old.turns)) stood.low);
+  }
+
+  there : (k : ℕ) (thread : ThreadView) → k ≢ t → slice_get new.threads k ≡ Some thread → IsThreadOf s.lines (after_by s.lines before_all (suc t) y) (length new.turns) (suc k) thread
+  there k thread differ at_k = thread_stays s.lines before_all (after_by s.lines before_all (suc t) y) (length old.turns) (length new.turns) (suc k) thread higher
+      (put_there before_all.threads (suc t) (after_thread s.lines (before_all.threads (suc t)) y) (suc k) (λ same. differ (omega (arith, same))))
+      (h.stand.threads k thread (sym (set_there old.threads t k m.after differ) ∙ ap (λ (ts : List ThreadView). slice_get ts k) (sym m.threads) ∙ at_k))
+
+  each : (k : ℕ) (thread : ThreadView) → slice_get new.threads k ≡ Some thread → IsThreadOf s.lines (after_by s.lines before_all (suc t) y) (length new.turns) (suc k) thread
+  each k thread at_k = elim (eqb_tells k t) [
+    | inl same ↦
+        let found : slice_get new.threads t ≡ Some m.after = ap (λ (ts : List ThreadView). slice_get ts t) m.threads ∙ set_here old.threads t m.before m.after m.found in
+        let both : Some m.after ≡ Some thread = sym found ∙ subst (λ (j : ℕ). slice_get new.threads j ≡ Some thread) same.1 at_k in
+        let is : m.after ≡ thread = cc both in
+        subst (λ (j : ℕ). IsThreadOf s.lines (after_by s.lines before_all (suc t) y) (length new.turns) (suc j) thread) (sym same.1)
+        (subst (IsThreadOf s.lines (after_by s.lines before_all (suc t) y) (length new.turns) (suc t)) is here)
+    | inr other ↦ there k thread other.1 at_k
+  ]
+
+  pub thread_holds : Holds s new
+  thread_holds = record {
+    trace = h.trace ++ y ∷ [];
+    made = subst (λ (ts : List Turn). Made s ts (h.trace ++ y ∷ [])) (sym m.turns) (made_moves s old.turns h.trace h.made (suc t) y m.note may_thread makes fits_thread);
+    stand = record {
+      adapter = subst (λ (v : Actors). IsAdapter s.lines v (length new.turns) new.adapter) (sym now_all)
+          (subst (IsAdapter s.lines (after_by s.lines before_all (suc t) y) (length new.turns)) (sym m.adapter)
+          (adapter_stays s.lines before_all (after_by s.lines before_all (suc t) y) (length old.turns) (length new.turns) old.adapter higher refl h.stand.adapter));
+      thread_count = ap (λ (ts : List ThreadView). length ts) m.threads ∙ length-set old.threads t m.after ∙ h.stand.thread_count;
+      threads = λ (k : ℕ) (thread : ThreadView) at_k. subst (λ (v : Actors). IsThreadOf s.lines v (length new.turns) (suc k) thread) (sym now_all) (each k thread at_k);
+    };
+    bus = bus_moves s old new h.trace (suc t) y (made_of m.note) h.bus m.bus m.turns m.capacity;
+  }
+
+-- A thread that has ended
+
+module _ (s : ScenarioParts) (old new : RunView) (t : ℕ) (h : Holds s old) (m : ThreadRests old new t) where
+  rests_here : Holds s (record { bus = old.bus; adapter = old.adapter; threads = old.threads; turns = with_turn old.turns (suc t) Nothing; capacity = old.capacity })
+  rests_here =
+      let w' = actors_after s.lines s.programs h.trace in
+      let more : low_after (length old.turns) ≤ low_after (length (with_turn old.turns (suc t) Nothing)) = low_rises old.turns (suc t) Nothing in
+      record {
+        trace = h.trace;
+        made = made_passes s old.turns h.trace h.made (suc t) (ap (λ (r : Thread). r.ended) (sym (h.stand.threads t m.thread m.found).rule) ∙ m.ended);
+        stand = record {
+          adapter = adapter_stays s.lines w' w' (length old.turns) (length (with_turn old.turns (suc t) Nothing)) old.adapter more refl h.stand.adapter;
+          thread_count = h.stand.thread_count;
+          threads = λ (k : ℕ) (thread : ThreadView) at_k. thread_stays s.lines w' w' (length old.turns) (length (with_turn old.turns (suc t) Nothing)) (suc k) thread more refl (h.stand.threads k thread at_k);
+        };
+        bus = record {
+          start = h.bus.start;
+          words = h.bus.words;
+          operations = h.bus.operations;
+          room = omega (arith, one_more old.turns (suc t) Nothing, h.bus.room);
+          turns = h.bus.turns;
+        };
+      }
+
+  pub rest_holds : Holds s new
+  rest_holds = subst (Holds s) (sym m.new_is) rests_here

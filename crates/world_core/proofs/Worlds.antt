@@ -1,198 +1,23 @@
--- The world before its first turn, and after one more.
-use Rattle.std.proofs.Common.{◌≡◌, ℕ, zero, suc, ◌+◌, ◌*◌, ◌<◌, ◌≤◌, List, [], ◌∷◌, ◌++◌, length, map, take, replicate, refl, sym, ◌∙◌, ap, subst, arith, Option, None, Some, slice_get, slice_index_or, append-nil, length-append, append_assoc}
-use Rattle.std.specs.List.{AllByRecursion, flat_map, sum_by, All, range_with_len}
-use Rattle.std.specs.Option.{option_to_list}
-use Rattle.std.proofs.lemmas.List.{map-append, length-replicate, take_more, take_all}
-use Rattle.std.proofs.lemmas.List.Concat.{flat_map-append}
-use Rattle.std.proofs.lemmas.List.Sums.{sum_by_more_le, sum_by-cons}
-use Rattle.std.proofs.Math.Nat.{suc-mul, mul-le-mul_right}
-use Rattle.std.proofs.lemmas.Option.{get_or_from_slice_get, slice_get_within}
-use Rattle.bus_core.proofs.Lists.{AllByRecursion-push}
-use Rattle.verbs_model.specs.declared.call.Call.{Call}
-use Rattle.verbs_model.specs.declared.entry.Entry.{Entry}
-use Rattle.verbs_model.specs.Turned.{Running}
-use Rattle.scenario_text.specs.declared.scenario.Plan.{Plan}
-use Rattle.scenario_text.specs.declared.scenario.Plan.TheVariants.{Idle, Schedule, Rounds}
-use Rattle.scenario_text.specs.declared.scenario.PlanItem.{PlanItem}
+-- The world after one more turn.
+use Rattle.std.proofs.Common.{◌≡◌, ◌∙◌, ap, inl, inr, ℕ, zero, suc, ◌++◌, List, [], ◌∷◌, map}
+use Rattle.std.proofs.lemmas.List.{map-append}
+use Rattle.device_engine.specs.Counts.{CountsGrow}
 use Rattle.scenario_text.specs.declared.scenario.ScenarioParts.{ScenarioParts}
-use Rattle.scenario_text.specs.Limits.{times_of, turn_count, round_of, rounds_of}
-use Rattle.scenario_text.specs.Running.{CanRun, IsActorOf, items_of_plan}
-use Rattle.world_core.specs.declared.turn.Made.{Made}
-use Rattle.world_core.specs.declared.turn.Turn.{Turn}
-use Rattle.world_core.specs.Decoding.{what_of, entry_of, history_of}
-use Rattle.world_core.specs.Fresh.{fresh_view}
-use Rattle.world_core.specs.Kept.{Completes}
-use Rattle.world_core.specs.Machine.{running_of}
-use Rattle.world_core.specs.Sound.{Sound}
-use Rattle.world_core.specs.Steps.{IsWithin, TurnsTo, Steps}
-use Rattle.world_core.specs.View.{View}
-use Rattle.world_core.specs.World.{Leads, WorldView, rounds_of_plan, turns_of_items}
-use Rattle.world_core.specs.WorldInside.{actor_of, IsWorldOf}
-use Rattle.world_core.proofs.Histories.{leads_none, leads_made}
-use Rattle.world_core.proofs.Spelled.{history_push, history_stays, all_within_more}
-use Rattle.world_core.proofs.Starting.{first_sound, first_leads}
+use Rattle.noted_history.specs.declared.log.Turn.{Turn}
+use Rattle.world_core.specs.Holding.{actor_of, Holds}
+use Rattle.world_core.specs.Run.{RunView, Turns}
+use Rattle.world_core.proofs.Turning.{adapter_holds, thread_holds, rest_holds}
 
-pub world_start : (s : ScenarioParts) (ps : List (List Call)) (p : Plan) (r : View) (cap : ℕ) → CanRun s → ps ≡ s.programs → p ≡ s.plan → r ≡ fresh_view s.lines (length ps) → turn_count (length s.lines.threads) s.plan ≤ cap → IsWorldOf s ps p r [] cap
-world_start s ps p r cap i programs plan fresh room =
-    let view : fresh_view s.lines (length s.programs) ≡ r = ap (λ (qs : List (List Call)). fresh_view s.lines (length qs)) (sym programs) ∙ sym fresh in record {
-      scenario = i;
-      programs = programs;
-      plan = plan;
-      sound = subst (Sound s.lines s.programs) view (first_sound s i);
-      leads = subst (λ (v : View). Leads s.lines s.programs [] [] (running_of s.lines s.programs v)) view (first_leads s i);
-      within = tt;
-      room = room;
-    }
+pub turn_holds : (s : ScenarioParts) (old new : RunView) (actor : ℕ) → CountsGrow → Holds s old → Turns old new actor → Holds s new
+turn_holds s old new zero grow h turns = adapter_holds s old new h turns grow
+turn_holds s old new (suc t) grow h turns = elim turns [
+  | inl moves ↦ thread_holds s old new t h moves
+  | inr rests ↦ rest_holds s old new t h rests
+]
 
-leads_turn : (s : ScenarioParts) (turns : List ℕ) (history : List Entry) (cs : List Completes) (before now : Running) (actor : ℕ) (made : Option Made) → Leads s.lines s.programs turns history before → TurnsTo s.programs cs before actor made now
-    → Leads s.lines s.programs (turns ++ actor ∷ []) (history ++ option_to_list (entry_of s.programs cs actor made)) now
-leads_turn s turns history cs before now actor None l t = subst (λ (h : List Entry). Leads s.lines s.programs (turns ++ actor ∷ []) h now) (sym (append-nil history)) (leads_none s.lines s.programs turns history before now actor l t)
-leads_turn s turns history cs before now actor (Some made) l t = leads_made s.lines s.programs turns history before now (record { actor = actor; what = what_of s.programs cs actor made }) l t
-
-pub world_turn : (s : ScenarioParts) (ps : List (List Call)) (p : Plan) (r r' : View) (turns : List Turn) (cap actor : ℕ) (made : Option Made) → IsWorldOf s ps p r turns cap → Steps s.lines s.programs r actor made r' → IsWorldOf s ps p r' (turns ++ record { actor = actor; made = made } ∷ []) cap
-world_turn s ps p r r' turns cap actor made w steps =
-    let t : Turn = record { actor = actor; made = made } in
-    let within : AllByRecursion (λ (x : Turn). IsWithin r'.completions x.made) turns = all_within_more s.programs r.completions r'.completions steps.grows turns w.within in
-    let stays : history_of s.programs r'.completions turns ≡ history_of s.programs r.completions turns = history_stays s.programs r.completions r'.completions steps.grows turns w.within in
-    let history : history_of s.programs r'.completions (turns ++ t ∷ []) ≡ history_of s.programs r.completions turns ++ option_to_list (entry_of s.programs r'.completions actor made) = history_push s.programs r'.completions turns t ∙ ap (λ (h : List Entry). h ++ option_to_list (entry_of s.programs r'.completions actor made)) stays in
-    let actors : map actor_of (turns ++ t ∷ []) ≡ map actor_of turns ++ actor ∷ [] = map-append actor_of turns (t ∷ []) in
-    let led : Leads s.lines s.programs (map actor_of turns ++ actor ∷ []) (history_of s.programs r.completions turns ++ option_to_list (entry_of s.programs r'.completions actor made)) (running_of s.lines s.programs r') =
-    leads_turn s (map actor_of turns) (history_of s.programs r.completions turns) r'.completions (running_of s.lines s.programs r) (running_of s.lines s.programs r') actor made w.leads steps.turns in record {
-      scenario = w.scenario;
-      programs = w.programs;
-      plan = w.plan;
-      sound = steps.sound;
-      leads = subst (λ (as' : List ℕ). Leads s.lines s.programs as' (history_of s.programs r'.completions (turns ++ t ∷ [])) (running_of s.lines s.programs r')) (sym actors)
-          (subst (λ (h : List Entry). Leads s.lines s.programs (map actor_of turns ++ actor ∷ []) h (running_of s.lines s.programs r')) (sym history) led);
-      within = AllByRecursion-push (λ (x : Turn). IsWithin r'.completions x.made) turns t within steps.within;
-      room = w.room;
-    }
-
-item_actor : (threads : ℕ) (items : List PlanItem) (i : ℕ) (x : PlanItem) → All (IsActorOf threads) items → slice_get items i ≡ Some x → x.actor ≤ threads
-item_actor threads [] i x h e = absurd (cc e)
-item_actor threads (y ∷ ys) zero x h e = let same : y ≡ x = cc e in subst (λ (z : PlanItem). z.actor ≤ threads) same (h 0 y (omega arith))
-item_actor threads (y ∷ ys) (suc i) x h e = item_actor threads ys i x (λ k z low. h (suc k) z (omega (arith, low))) e
-
--- an item of the plan names the adapter or a thread
-pub planned_actor : (s : ScenarioParts) (i : ℕ) (x : PlanItem) → CanRun s → slice_get (items_of_plan s.plan) i ≡ Some x → x.actor ≤ length s.programs
-planned_actor s i x can e = let low : x.actor ≤ length s.lines.threads = item_actor (length s.lines.threads) (items_of_plan s.plan) i x can.plan.0 e in omega (arith, low, can.paired)
-
-abbrev pub item_turns : PlanItem → List ℕ
-item_turns i = replicate (times_of i) i.actor
-
-pub length_turns : (items : List PlanItem) → length (flat_map item_turns items) ≡ sum_by times_of items
-length_turns [] = refl
-length_turns (i ∷ items) =
-    let one : length (item_turns i) ≡ times_of i = simp length-replicate in
-    let both : length (item_turns i ++ flat_map item_turns items) ≡ length (item_turns i) + length (flat_map item_turns items) = length-append (item_turns i) (flat_map item_turns items) in
-    omega (arith, one, both, length_turns items, sum_by-cons times_of i items)
-
--- the items make no more turns than the plan
-pub count_most : (threads : ℕ) (p : Plan) → sum_by times_of (items_of_plan p) ≤ turn_count threads p
-count_most threads Idle = omega arith
-count_most threads (Schedule items) = omega arith
-count_most threads (Rounds n) = omega arith
-
--- the next item of a plan
-pub turns_more : (p : Plan) (i : ℕ) (x : PlanItem) → slice_get (items_of_plan p) i ≡ Some x → flat_map item_turns (take i (items_of_plan p)) ++ item_turns x ≡ flat_map item_turns (take (i + 1) (items_of_plan p))
-turns_more p i x e =
-    let items : List PlanItem = items_of_plan p in
-    let there : slice_index_or items i x ≡ x = get_or_from_slice_get items i x x e in
-    let one : flat_map item_turns (x ∷ []) ≡ item_turns x = append-nil (item_turns x) in
-    sym
-    (ap (flat_map item_turns) (take_more items i x (slice_get_within items i x e) ∙ ap (λ (y : PlanItem). take i items ++ y ∷ []) there)
-    ∙ flat_map-append item_turns (take i items) (x ∷ [])
-    ∙ ap (λ ts. flat_map item_turns (take i items) ++ ts) one)
-
-pub turns_fit : (threads : ℕ) (p : Plan) (i : ℕ) (x : PlanItem) → slice_get (items_of_plan p) i ≡ Some x → length (flat_map item_turns (take i (items_of_plan p))) + times_of x ≤ turn_count threads p
-turns_fit threads p i x e =
-    let items : List PlanItem = items_of_plan p in
-    let there : slice_index_or items i x ≡ x = get_or_from_slice_get items i x x e in
-    let times : times_of (slice_index_or items i x) ≡ times_of x = ap times_of there in
-    omega (arith, length_turns (take i items), sum_by_more_le times_of items i x (slice_get_within items i x e), times, count_most threads p)
-
-pub planned_more : (now made : WorldView) (s : ScenarioParts) (i : ℕ) (x : PlanItem) (count : ℕ) → now ≡ record { parts = s; turns = flat_map item_turns (take i (items_of_plan s.plan)) } → slice_get (items_of_plan now.parts.plan) i ≡ Some x → count ≡ times_of x
-    → made ≡ record now { turns = now.turns ++ replicate count x.actor }
-    → made ≡ record { parts = s; turns = flat_map item_turns (take (i + 1) (items_of_plan s.plan)) }
-planned_more now made s i x count is item times more =
-    let there : slice_get (items_of_plan s.plan) i ≡ Some x = ap (λ (v : WorldView). slice_get (items_of_plan v.parts.plan) i) (sym is) ∙ item in
-    more
-    ∙ ap (λ (v : WorldView). record v { turns = v.turns ++ replicate count x.actor }) is
-    ∙ ap (λ (ts : List ℕ). record { parts = s; turns = flat_map item_turns (take i (items_of_plan s.plan)) ++ ts }) (ap (λ n. replicate n x.actor) times)
-    ∙ ap (λ (ts : List ℕ). record { parts = s; turns = ts }) (turns_more s.plan i x there)
-
-pub planned_all : (s : ScenarioParts) (i : ℕ) → length (items_of_plan s.plan) ≤ i → flat_map item_turns (take i (items_of_plan s.plan)) ≡ turns_of_items (items_of_plan s.plan)
-planned_all s i far = ap (flat_map item_turns) (take_all i (items_of_plan s.plan) far)
-
-pub item_there : (p : Plan) (i : ℕ) → i < length (items_of_plan p) → slice_get (items_of_plan p) i ≡ None → ⊥
-item_there p i low none = absurd (past (items_of_plan p) i low none)
-  where
-    past : (xs : List PlanItem) (n : ℕ) → n < length xs → slice_get xs n ≡ None → ⊥
-    past [] n low e = omega (arith, low)
-    past (x ∷ xs) zero low e = cc e
-    past (x ∷ xs) (suc n) low e = past xs n (omega (arith, low)) e
-
--- Rounds
-
--- a plan of rounds has so many turns
-pub count_is_rounds : (threads n : ℕ) (p : Plan) → rounds_of_plan p ≡ Some n → n * (threads + 1) ≡ turn_count threads p
-count_is_rounds threads n Idle e = absurd (cc e)
-count_is_rounds threads n (Schedule items) e = absurd (cc e)
-count_is_rounds threads n (Rounds m) e = let same : m ≡ n = cc e in ap (λ k. k * (threads + 1)) (sym same)
-
-pub range_more : (first n : ℕ) → range_with_len first n ++ (first + n) ∷ [] ≡ range_with_len first (suc n)
-range_more first zero = ap (λ k. k ∷ []) (let e : first + 0 ≡ first = omega arith in e)
-range_more first (suc n) = ap (λ (ks : List ℕ). first ∷ ks) (ap (λ k. range_with_len (first + 1) n ++ k ∷ []) (let e : first + suc n ≡ first + 1 + n = omega arith in e) ∙ range_more (first + 1) n)
-
-pub length_range : (first n : ℕ) → length (range_with_len first n) ≡ n
-length_range first zero = refl
-length_range first (suc n) = ap suc (length_range (first + 1) n)
-
-pub length_round : (threads : ℕ) → length (round_of threads) ≡ threads + 1
-length_round threads = length-append (range_with_len 1 threads) (0 ∷ []) ∙ ap (λ n. n + 1) (length_range 1 threads)
-
-pub length_rounds : (threads n : ℕ) → length (rounds_of threads n) ≡ n * (threads + 1)
-length_rounds threads zero = omega arith
-length_rounds threads (suc n) =
-    let both : length (rounds_of threads (suc n)) ≡ length (round_of threads) + length (rounds_of threads n) = length-append (round_of threads) (rounds_of threads n) in
-    omega (arith, both, length_round threads, length_rounds threads n, suc-mul n (threads + 1))
-
-pub rounds_more : (threads n : ℕ) → rounds_of threads n ++ round_of threads ≡ rounds_of threads (suc n)
-rounds_more threads zero = sym (append-nil (round_of threads))
-rounds_more threads (suc n) = append_assoc (round_of threads) (rounds_of threads n) (round_of threads) ∙ ap (λ (ts : List ℕ). round_of threads ++ ts) (rounds_more threads n)
-
--- one more round fits
-pub round_fits : (threads i n : ℕ) → i < n → i * (threads + 1) + (threads + 1) ≤ n * (threads + 1)
-round_fits threads i n low = let up : suc i * (threads + 1) ≤ n * (threads + 1) = mul-le-mul_right (threads + 1) low in omega (arith, up, suc-mul i (threads + 1))
-
--- The turns of a round
-
-pub round_left : (now : WorldView) (s : ScenarioParts) (ts : List ℕ) (k : ℕ) → now ≡ record { parts = s; turns = ts ++ range_with_len 1 k } → k ≤ length s.lines.threads → length ts + length s.lines.threads + 1 ≤ turn_count (length s.lines.threads) s.plan
-    → length now.turns < turn_count (length now.parts.lines.threads) now.parts.plan
-round_left now s ts k is le room =
-    let long : length (ts ++ range_with_len 1 k) ≡ length ts + length (range_with_len 1 k) = length-append ts (range_with_len 1 k) in
-    subst (λ (v : WorldView). length v.turns < turn_count (length v.parts.lines.threads) v.parts.plan) (sym is) (omega (arith, long, length_range 1 k, le, room))
-
-pub round_more : (now made : WorldView) (s : ScenarioParts) (ts : List ℕ) (k : ℕ) → now ≡ record { parts = s; turns = ts ++ range_with_len 1 k } → made ≡ record now { turns = now.turns ++ (k + 1) ∷ [] } → made ≡ record { parts = s; turns = ts ++ range_with_len 1 (k + 1) }
-round_more now made s ts k is more =
-    let next : k + 1 ≡ 1 + k = omega arith in
-    let up : suc k ≡ k + 1 = omega arith in
-    more
-    ∙ ap (λ (v : WorldView). record v { turns = v.turns ++ (k + 1) ∷ [] }) is
-    ∙ ap (λ (us : List ℕ). record { parts = s; turns = us })
-    (append_assoc ts (range_with_len 1 k) ((k + 1) ∷ []) ∙ ap (λ (us : List ℕ). ts ++ us) (ap (λ j. range_with_len 1 k ++ j ∷ []) next ∙ range_more 1 k ∙ ap (range_with_len 1) up))
-
--- The rounds of a plan
-
-pub rounds_left : (now : WorldView) (s : ScenarioParts) (i n : ℕ) → now ≡ record { parts = s; turns = rounds_of (length s.lines.threads) i } → i < n → rounds_of_plan s.plan ≡ Some n
-    → length now.turns + length now.parts.lines.threads + 1 ≤ turn_count (length now.parts.lines.threads) now.parts.plan
-rounds_left now s i n is low rounds =
-    subst (λ (v : WorldView). length v.turns + length v.parts.lines.threads + 1 ≤ turn_count (length v.parts.lines.threads) v.parts.plan) (sym is)
-    (omega (arith, length_rounds (length s.lines.threads) i, round_fits (length s.lines.threads) i n low, count_is_rounds (length s.lines.threads) n s.plan rounds))
-
-pub rounds_next : (now made : WorldView) (s : ScenarioParts) (i : ℕ) → now ≡ record { parts = s; turns = rounds_of (length s.lines.threads) i } → made ≡ record now { turns = now.turns ++ round_of (length now.parts.lines.threads) } → made ≡ record { parts = s; turns = rounds_of (length s.lines.threads) (i + 1) }
-rounds_next now made s i is more =
-    let up : suc i ≡ i + 1 = omega arith in
-    more
-    ∙ ap (λ (v : WorldView). record v { turns = v.turns ++ round_of (length v.parts.lines.threads) }) is
-    ∙ ap (λ (us : List ℕ). record { parts = s; turns = us }) (rounds_more (length s.lines.threads) i ∙ ap (rounds_of (length s.lines.threads)) up)
+pub one_turn : (old new : RunView) (actor : ℕ) → Turns old new actor → map actor_of new.turns ≡ map actor_of old.turns ++ actor ∷ []
+one_turn old new zero turns = ap (λ (ts : List Turn). map actor_of ts) turns.turns ∙ map-append actor_of old.turns (_ ∷ [])
+one_turn old new (suc t) turns = elim turns [
+  | inl moves ↦ ap (λ (ts : List Turn). map actor_of ts) moves.turns ∙ map-append actor_of old.turns (_ ∷ [])
+  | inr rests ↦ ap (λ (v : RunView). map actor_of v.turns) rests.new_is ∙ map-append actor_of old.turns (_ ∷ [])
+]

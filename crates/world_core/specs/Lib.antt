@@ -1,11 +1,7 @@
-pub mod Kept
-pub mod KeptInside
-pub mod View
-pub mod Moves
-pub mod Decoding
-pub mod Machine
-pub mod Sound
-pub mod Steps
 pub mod World
-pub mod Fresh
+pub mod Outcome
+pub mod Run
+pub mod RunInside
+pub mod Start
+pub mod Holding
 pub mod WorldInside

@@ -1,12 +1,26 @@
-//! Copies of the programs and the plan of a scenario.
-ghost use Rattle.std.specs.Prelude.{◌≡◌, IfOk};
+//! Copies of what a scenario says and of what a bus kept.
+ghost use Rattle.std.specs.Prelude.{◌≡◌, IfOk, slice_index};
+ghost use Rattle.bus_core.specs.Trace.{IsConsistent};
 
+use bus_core::{BusEntry, PlainBus};
 use scenario_text::Plan;
 use std::alloc::{AllocError, Global};
-use verbs_model::{Call, Receive, Request, Sequence};
+use verbs_model::{Call, NoMemory, Receive, Request, Sequence};
 
 /// The same calls of each thread.
 pub(crate) fn copy_of_programs(
+    alloc: Global,
+    programs: &[Sequence<Call>],
+) -> Result<Vec<Sequence<Call>>, NoMemory>
+    ensures { IfOk result (λ ps. ps.items ≡ programs.now) }
+{
+    match copy_of_each(alloc, programs) {
+        Ok(copies) => Ok(copies),
+        Err(_) => Err(NoMemory),
+    }
+}
+
+fn copy_of_each(
     alloc: Global,
     programs: &[Sequence<Call>],
 ) -> Result<Vec<Sequence<Call>>, AllocError>
@@ -19,7 +33,8 @@ pub(crate) fn copy_of_programs(
     Ok(copies)
 }
 
-fn copy_of_calls(alloc: Global, calls: &[Call]) -> Result<Sequence<Call>, AllocError>
+/// The same calls.
+pub(crate) fn copy_of_calls(alloc: Global, calls: &[Call]) -> Result<Sequence<Call>, AllocError>
     ensures { IfOk result (λ cs. cs ≡ calls.now) }
 {
     let mut copies = Vec::with_capacity(alloc, calls.len())?;
@@ -82,15 +97,26 @@ fn copy_of_request(request: &Request) -> Result<Request, AllocError>
 }
 
 /// The same plan.
-pub(crate) fn copy_of_plan(alloc: Global, plan: &Plan) -> Result<Plan, AllocError>
+pub(crate) fn copy_of_plan(alloc: Global, plan: &Plan) -> Result<Plan, NoMemory>
     ensures { IfOk result (λ p. p ≡ plan.now) }
 {
     match plan {
         Plan::Idle => Ok(Plan::Idle),
-        Plan::Schedule(items) => Ok(Plan::Schedule(Sequence::from_vec(Vec::from_slice(
-            alloc,
-            items.as_slice(),
-        )?))),
+        Plan::Schedule(items) => match Vec::from_slice(alloc, items.as_slice()) {
+            Ok(copies) => Ok(Plan::Schedule(Sequence::from_vec(copies))),
+            Err(_) => Err(NoMemory),
+        },
         Plan::Rounds(rounds) => Ok(Plan::Rounds(*rounds)),
+    }
+}
+
+/// All operations so far of a bus, each of which tells the word that it found.
+pub(crate) fn copy_of_trace(alloc: Global, bus: &PlainBus) -> Result<Vec<BusEntry>, NoMemory>
+    ensures trace { IfOk result (λ v. v.items ≡ bus.now.trace) }
+    ensures consistent { IsConsistent (slice_index bus.now.start) bus.now.trace }
+{
+    match Vec::from_slice(alloc, bus.trace()) {
+        Ok(trace) => Ok(trace),
+        Err(_) => Err(NoMemory),
     }
 }

@@ -1,24 +1,16 @@
-//! The machine of whole turns. A world is the threads of a scenario with the adapter beside them: a turn of a
-//! thread posts requests, polls or drains completions, or retires and acknowledges what it took; a turn of the
-//! adapter fetches a send request or writes its completion. Each turn leaves its entry in the history, or none
-//! where nothing is due to its actor. Nothing here is of rings, owner bits or doorbells.
+//! The world of a scenario over the words that the provider and the adapter share: the threads of the scenario and the
+//! adapter take turns, one operation on one 64-bit word a turn, and the notes of their operations tell which history
+//! they spell.
 #![tactic(auto)]
 
-mod adapter;
-mod completions;
 mod copies;
-mod fresh;
-mod polled;
-mod progress;
+mod outcome;
 mod run;
-mod send_queue;
-mod spelling;
-mod thread;
-mod turn;
+mod start;
+#[cfg(test)]
+mod tests;
 mod turns;
 mod world;
 
-pub use world::{Outcome, World};
-
-#[cfg(test)]
-mod tests;
+pub use outcome::Outcome;
+pub use world::World;

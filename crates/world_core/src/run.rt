@@ -1,50 +1,105 @@
-//! All queue pairs, completion queues and threads, as they stand between two turns.
+//! The actors of a run, turn by turn.
+ghost use Rattle.std.specs.Prelude.{◌≡◌, ◌<◌, ◌⊎◌, suc, length, Some, slice_get};
+ghost use Rattle.thread_actor.specs.View.{ThreadView};
+ghost use Rattle.world_core.specs.Run.{CanOperate, CanTurn, Turns, AdapterMoves, IsGoing, Operates, ThreadMoves, ThreadRests, made_of as made};
+ghost use Rattle.world_core.specs.RunInside.{run_view};
 
-use crate::completions::{Completions, Done};
-use crate::send_queue::SendQueue;
-use verbs_model::QueuePair;
+use actor_map::Actor;
+use bus_core::{Note, PlainBus};
+use device_engine::Device;
+use noted_history::{Made, Turn};
+use thread_actor::ThreadActor;
+use verbs_model::ADAPTER;
 
-/// What a thread is in the middle of.
-#[derive(Clone, Copy, Debug, PartialEq, Eq)]
-pub enum Now {
-    /// Nothing.
-    Free,
-    /// A post, the call of this place, that found the queue full after `count` requests, which are
-    /// accepted next.
-    Accept { call: usize, count: usize },
-    /// A poll of this completion queue, of which `left` completions, the first of them published as
-    /// `next`, are still to be retired before the acknowledgement.
-    Settle { cq: u32, next: usize, left: usize },
+/// The adapter and the threads of a scenario over the words that they share, between two turns.
+#[derive(Drop)]
+pub(crate) struct Run {
+    pub bus: PlainBus,
+    pub adapter: Device,
+    /// The first is thread 1.
+    pub threads: Vec<ThreadActor>,
+    /// What each turn made.
+    pub turns: Vec<Turn>,
 }
 
-/// How far a thread has come.
-#[derive(Clone, Copy, Debug, PartialEq, Eq)]
-pub struct Progress {
-    pub now: Now,
-    /// How many completions the call before `next` still has to drain, and from which completion queue.
-    pub to_drain: u32,
-    pub drained: u32,
-    /// The place of the next call to begin.
-    pub next: usize,
+impl Run {
+    /// A turn of the adapter or of a thread: one operation, but of a thread that has ended none.
+    pub fn turn(&mut self, actor: u8)
+        requires { CanTurn (run_view self.old) actor }
+        ensures { Turns (run_view self.old) (run_view self.new) actor }
+    {
+        if actor == ADAPTER {
+            self.turn_of_adapter();
+        } else {
+            self.turn_of_thread(actor - 1);
+        }
+    }
+
+    fn turn_of_adapter(&mut self)
+        requires { CanTurn (run_view self.old) 0 }
+        ensures { AdapterMoves (run_view self.old) (run_view self.new) }
+    {
+        self.bus.set_actor(ADAPTER);
+        let note = self.adapter.turn(&mut self.bus);
+        self.turns.push_reserved(Turn {
+            actor: ADAPTER,
+            made: made_of(note),
+        });
+    }
+
+    /// A turn of the thread at a place.
+    fn turn_of_thread(&mut self, place: u8)
+        requires { CanTurn (run_view self.old) (suc place) }
+        ensures { ThreadMoves (run_view self.old) (run_view self.new) place ⊎ ThreadRests (run_view self.old) (run_view self.new) place }
+    {
+        if has_ended(self.threads.as_slice(), place as usize) {
+            self.turns.push_reserved(Turn {
+                actor: place + 1,
+                made: Made::Nothing,
+            });
+        } else {
+            self.operation_of_thread(place);
+        }
+    }
+
+    /// The next operation of the thread at a place.
+    fn operation_of_thread(&mut self, place: u8)
+        requires can { CanTurn (run_view self.old) (suc place) }
+        requires going { IsGoing self.old.threads.items place }
+        ensures { ThreadMoves (run_view self.old) (run_view self.new) place }
+    {
+        let actor = place + 1;
+        self.bus.set_actor(actor);
+        let note = operation_at(self.threads.as_mut_slice(), place as usize, &mut self.bus);
+        self.turns.push_reserved(Turn {
+            actor,
+            made: made_of(note),
+        });
+    }
 }
 
-/// A completion for the completion queue of this number.
-#[derive(Clone, Copy, Debug, PartialEq, Eq)]
-pub struct Owed {
-    pub cq: u32,
-    pub done: Done,
+/// Whether the thread at a place has ended.
+fn has_ended(threads: &[ThreadActor], place: usize) -> bool
+    requires { place < length threads.now }
+    ensures { (thread : ThreadView) × (slice_get threads.now place ≡ Some thread) × (result ≡ thread.ended) }
+{
+    threads[place].ended()
 }
 
-/// All of it.
-#[derive(Debug, Drop)]
-pub struct Run {
-    /// The send queue of each queue pair, in the order of the numbers, and the queue pair.
-    pub queues: Vec<SendQueue>,
-    pub pairs: Vec<QueuePair>,
-    /// The completion queues, in the order of their numbers.
-    pub completions: Vec<Completions>,
-    /// The completion that the adapter has still to publish.
-    pub owed: Option<Owed>,
-    /// The progress of each thread.
-    pub threads: Vec<Progress>,
+/// The next operation of the thread at a place.
+fn operation_at(threads: &mut [ThreadActor], place: usize, bus: &mut PlainBus) -> Option<Note>
+    requires can { CanOperate threads.old place bus.old }
+    ensures { Operates threads.old threads.new place bus.old bus.new result }
+{
+    threads[place].turn(bus)
+}
+
+/// What an operation made that has this note.
+fn made_of(note: Option<Note>) -> Made
+    ensures { result ≡ made note }
+{
+    match note {
+        None => Made::Operation,
+        Some(note) => Made::Entry(note),
+    }
 }

@@ -1,287 +1,106 @@
-//! NOPs of two queue pairs on their way through the queues, and the entries that tell of them.
-
-use crate::completions::{Completions, Done};
-use crate::run::Run;
-use crate::send_queue::SendQueue;
-use crate::spelling::history_of;
-use crate::turn::{Made, Turn};
+//! Runs of small scenarios.
+use crate::{Outcome, World};
+use scenario_text::parse_scenario;
 use std::alloc::Global;
 use std::test::Fail;
-use verbs_model::{
-    ADAPTER, Body, Call, Completion, Entry, FIRST_QP, Item, Kind, Op, QpState, Queue, QueuePair,
-    Request, Sequence, What,
-};
+use verbs_model::{ADAPTER, Entry, FIRST_QP, Queue, What};
 
-const OTHER_QP: u32 = FIRST_QP + 1;
+/// A thread posts two NOPs, of which the second wants a completion, and another polls once and then waits for it.
+const TWO_NOPS: &[u8] = b"eq e 1
+pd p
+cq c 2 2 e 0
+qp q p c c 2 rq:0 1 0
+connect q q
+thread a
+post q
++ 7 nop -
++ 8 nop c
+end
+thread b
+poll c 1
+drain c 1
+end
+";
 
-fn nop(alloc: Global, id: u64, wanted: bool) -> Request {
-    Request {
-        id,
-        op: Op::Nop,
-        wanted,
-        solicited: false,
-        fence: false,
-        body: Body::Sges(Sequence::from_vec(Vec::new(alloc))),
+/// What a run of a scenario with this plan leaves.
+fn outcome_of(alloc: Global, plan: &[u8]) -> Result<Outcome, Fail> {
+    let mut text = Vec::from_slice(alloc, TWO_NOPS)?;
+    text.extend_from_slice(plan)?;
+    let scenario = parse_scenario(alloc, text.as_slice())?;
+    let mut world = World::from_scenario(alloc, &scenario)?;
+    world.run_schedule();
+    Ok(world.finish(alloc)?)
+}
+
+/// Whether these are the entries of both NOPs, of which the first poll took none.
+fn are_of_two_nops(history: &[Entry]) -> bool {
+    let queue = Queue::Send(FIRST_QP);
+    match history {
+        [
+            polled,
+            posted,
+            first,
+            second,
+            published,
+            drained,
+            retired,
+            acked,
+        ] => {
+            polled.actor == 2
+                && matches!(&polled.what, What::Poll { completions, .. } if completions.len() == 0)
+                && posted.actor == 1
+                && matches!(&posted.what, What::Post { items, .. } if items.len() == 2)
+                && first.actor == ADAPTER
+                && matches!(first.what, What::Fetch { number: 1, .. })
+                && matches!(second.what, What::Fetch { number: 2, .. })
+                && matches!(&published.what, What::Publish { completion, .. } if completion.id == 8 && completion.queue == queue)
+                && matches!(&drained.what, What::Poll { max: 1, completions, .. } if completions.len() == 1)
+                && matches!(retired.what, What::Retire { count: 2, .. })
+                && matches!(acked.what, What::Ack { index: 1, .. })
+        }
+        _ => false,
     }
-}
-
-/// The completion of a NOP.
-fn done(qp: u32, id: u64) -> Completion {
-    Completion {
-        queue: Queue::Send(qp),
-        qp,
-        id,
-        status: 0,
-        kind: Kind::Nop,
-        len: 0,
-        imm: None,
-        solicited: false,
-    }
-}
-
-fn by_thread(what: What) -> Entry {
-    Entry { actor: 1, what }
-}
-
-fn by_adapter(what: What) -> Entry {
-    Entry {
-        actor: ADAPTER,
-        what,
-    }
-}
-
-/// What a thread that posts the requests 7, 8 and 9 to a queue with two places, and polls, makes with the
-/// adapter and with completions of two queue pairs in one completion queue.
-const TURNS: [Turn; 12] = [
-    Turn {
-        actor: 1,
-        made: Some(Made::Full {
-            call: 0,
-            pending: 2,
-            head: 2,
-            tail: 0,
-        }),
-    },
-    Turn {
-        actor: 1,
-        made: Some(Made::Post { call: 0, count: 2 }),
-    },
-    Turn {
-        actor: 1,
-        made: None,
-    },
-    Turn {
-        actor: ADAPTER,
-        made: Some(Made::Fetch {
-            qp: OTHER_QP,
-            number: 1,
-        }),
-    },
-    Turn {
-        actor: ADAPTER,
-        made: Some(Made::Fetch {
-            qp: OTHER_QP,
-            number: 2,
-        }),
-    },
-    Turn {
-        actor: ADAPTER,
-        made: Some(Made::Publish {
-            cq: 1,
-            qp: OTHER_QP,
-            id: 8,
-        }),
-    },
-    Turn {
-        actor: ADAPTER,
-        made: None,
-    },
-    Turn {
-        actor: 1,
-        made: Some(Made::Poll {
-            cq: 1,
-            most: 4,
-            first: 1,
-            count: 2,
-        }),
-    },
-    Turn {
-        actor: 1,
-        made: Some(Made::Retire {
-            qp: OTHER_QP,
-            number: 2,
-        }),
-    },
-    Turn {
-        actor: 1,
-        made: Some(Made::Retire {
-            qp: FIRST_QP,
-            number: 2,
-        }),
-    },
-    Turn {
-        actor: 1,
-        made: Some(Made::Ack { cq: 1, index: 3 }),
-    },
-    Turn {
-        actor: 1,
-        made: Some(Made::Poll {
-            cq: 0,
-            most: 1,
-            first: 0,
-            count: 0,
-        }),
-    },
-];
-
-fn program(alloc: Global) -> Result<Sequence<Call>, Fail> {
-    let requests = vec![in alloc;
-        nop(alloc, 7, false),
-        nop(alloc, 8, true),
-        nop(alloc, 9, true),
-    ]?;
-    let post = Call::Post {
-        qp: OTHER_QP,
-        requests: Sequence::from_vec(requests),
-    };
-    Ok(Sequence::from_vec(vec![in alloc; post]?))
-}
-
-/// What was published: nothing in the first completion queue, and of both queue pairs in the second.
-fn published(alloc: Global) -> Result<Vec<Completions>, Fail> {
-    let empty = Completions::new(alloc, 1)?;
-    let mut shared = Completions::new(alloc, 2)?;
-    shared.publish(Done {
-        qp: FIRST_QP,
-        id: 4,
-        number: 1,
-    });
-    shared.publish(Done {
-        qp: OTHER_QP,
-        id: 8,
-        number: 2,
-    });
-    shared.publish(Done {
-        qp: FIRST_QP,
-        id: 5,
-        number: 2,
-    });
-    Ok(vec![in alloc; empty, shared]?)
-}
-
-fn entries(alloc: Global) -> Result<Sequence<Entry>, Fail> {
-    let send = Queue::Send(OTHER_QP);
-    let items = vec![in alloc;
-        Item::Request(nop(alloc, 7, false)),
-        Item::Request(nop(alloc, 8, true)),
-    ]?;
-    let took = vec![in alloc; done(OTHER_QP, 8), done(FIRST_QP, 5)]?;
-    let entries = vec![in alloc;
-        by_thread(What::PostFull {
-            queue: send,
-            pending: 2,
-            head: 2,
-            tail: 0
-        }),
-        by_thread(What::Post {
-            queue: send,
-            items: Sequence::from_vec(items)
-        }),
-        by_adapter(What::Fetch {
-            queue: send,
-            number: 1
-        }),
-        by_adapter(What::Fetch {
-            queue: send,
-            number: 2
-        }),
-        by_adapter(What::Publish {
-            cq: 1,
-            completion: done(OTHER_QP, 8)
-        }),
-        by_thread(What::Poll {
-            cq: 1,
-            max: 4,
-            completions: Sequence::from_vec(took)
-        }),
-        by_thread(What::Retire {
-            queue: send,
-            count: 2
-        }),
-        by_thread(What::Retire {
-            queue: Queue::Send(FIRST_QP),
-            count: 2
-        }),
-        by_thread(What::Ack { cq: 1, index: 3 }),
-        by_thread(What::Poll {
-            cq: 0,
-            max: 1,
-            completions: Sequence::from_vec(Vec::new(alloc))
-        }),
-    ]?;
-    Ok(Sequence::from_vec(entries))
 }
 
 #[test]
-fn turns_are_spelled_as_entries(rt: HostRuntime) -> Result<(), Fail> {
-    let alloc = rt.alloc();
-    let programs = vec![in alloc; program(alloc)?]?;
-    let published = published(alloc)?;
-    let history = history_of(alloc, programs.as_slice(), published.as_slice(), &TURNS)?;
-    let history = format!(in alloc; "{:?}", Sequence::from_vec(history))?;
-    let want = format!(in alloc; "{:?}", entries(alloc)?)?;
-    assert_eq!(rt; history, want);
+fn rounds_bring_nops_through(rt: HostRuntime) -> Result<(), Fail> {
+    let outcome = outcome_of(rt.alloc(), b"rounds 100\n")?;
+    assert!(&rt; are_of_two_nops(outcome.history.as_slice()));
     Ok(())
 }
 
 #[test]
-fn full_queue_has_no_room(rt: HostRuntime) -> Result<(), Fail> {
-    let alloc = rt.alloc();
-    let requests = [nop(alloc, 7, false), nop(alloc, 8, true)];
-    let mut queue = SendQueue::new(alloc, 1, 1, 2)?;
-    queue.append(&requests);
-    assert_eq!(rt; queue.free(), 0);
-    Ok(())
-}
-
-#[test]
-fn oldest_end_is_retired_first(rt: HostRuntime) -> Result<(), Fail> {
-    let mut queue = SendQueue::new(rt.alloc(), 1, 1, 2)?;
-    queue.end(3);
-    queue.end(5);
-    assert_eq!(rt; queue.retire(), 3);
-    assert_eq!(rt; queue.retired(), 3);
-    Ok(())
-}
-
-/// A queue pair in this state, whose send queue has one request.
-fn pair_in(state: QpState) -> QueuePair {
-    QueuePair {
-        state,
-        send_cq: 0,
-        recv_cq: 0,
+fn each_entry_has_a_marked_operation(rt: HostRuntime) -> Result<(), Fail> {
+    let outcome = outcome_of(rt.alloc(), b"rounds 100\n")?;
+    let mut marked = 0;
+    for mark in outcome.marks.as_slice() {
+        if *mark {
+            marked += 1;
+        }
     }
-}
-
-fn one_posted(alloc: Global) -> Result<SendQueue, Fail> {
-    let mut queue = SendQueue::new(alloc, 1, 1, 1)?;
-    queue.append(&[nop(alloc, 7, true)]);
-    Ok(queue)
+    assert_eq!(&rt; outcome.marks.len(), outcome.trace.len());
+    assert_eq!(&rt; marked, outcome.history.len());
+    Ok(())
 }
 
 #[test]
-fn lowest_pair_that_may_send_is_first(rt: HostRuntime) -> Result<(), Fail> {
-    let alloc = rt.alloc();
-    let states = [QpState::Reset, QpState::Rts, QpState::Rts];
-    let queues = vec![in alloc; one_posted(alloc)?, one_posted(alloc)?, one_posted(alloc)?]?;
-    let pairs = vec![in alloc; pair_in(states[0]), pair_in(states[1]), pair_in(states[2])]?;
-    let run = Run {
-        queues,
-        pairs,
-        completions: Vec::new(alloc),
-        owed: None,
-        threads: Vec::new(alloc),
-    };
-    assert_eq!(rt; run.first_ready(), Some(1));
+fn turns_are_operations(rt: HostRuntime) -> Result<(), Fail> {
+    let outcome = outcome_of(rt.alloc(), b"schedule b dev*2 a\n")?;
+    let mut actors = [9; 4];
+    for (place, operation) in outcome.trace.iter().enumerate() {
+        if place < 4 {
+            actors[place] = operation.actor;
+        }
+    }
+    assert_eq!(&rt; actors, [2, 0, 0, 1]);
+    assert_eq!(&rt; outcome.trace.len(), 4);
+    Ok(())
+}
+
+#[test]
+fn idle_plan_makes_nothing(rt: HostRuntime) -> Result<(), Fail> {
+    let outcome = outcome_of(rt.alloc(), b"")?;
+    assert_eq!(&rt; outcome.trace.len(), 0);
+    assert_eq!(&rt; outcome.history.len(), 0);
     Ok(())
 }

@@ -1,28 +1,35 @@
-//! The world: the threads of a scenario and the adapter, one turn after another.
+//! The world: the threads of a scenario and the adapter, one operation after another.
 ghost use Rattle.std.specs.Prelude.{◌≡◌, ◌+◌, ◌<◌, ◌≤◌, ◌++◌, ◌∷◌, [], Some, length, replicate, IfOk, IfSome, slice_get};
 ghost use Rattle.scenario_text.specs.Limits.{round_of, rounds_of, turn_count, turns_of as turns_of_plan};
 ghost use Rattle.scenario_text.specs.Running.{items_of_plan};
-ghost use Rattle.world_core.specs.World.{IsRun, rounds_of_plan, turns_of_items};
+ghost use Rattle.world_core.specs.Outcome.{IsOutcome};
+ghost use Rattle.world_core.specs.World.{rounds_of_plan, turns_of_items};
 
-use crate::copies::{copy_of_plan, copy_of_programs};
-use crate::fresh::{times, turns_of};
+use crate::copies::{copy_of_plan, copy_of_programs, copy_of_trace};
+use crate::outcome::Outcome;
 use crate::run::Run;
-use crate::spelling::history_of;
-use crate::turn::Turn;
+use crate::start::first_run;
+use crate::turns::times;
+use actor_rules::laws::woven;
+use device_engine::laws::counts_grow;
+use noted_history::{history_of, marks_of};
+use operation_bounds::laws::run_is_bounded;
+use ready_scenarios::laws::ready;
 use scenario_text::{Plan, PlanItem, Scenario};
-use std::alloc::{AllocError, Global};
+use std::alloc::Global;
 use std::marker::Model;
 use std::snapshot::Snapshot;
-use verbs_model::{ADAPTER, Call, Entry, NoMemory, Sequence};
+use verbs_model::{ADAPTER, Abstract, Call, NoMemory, Sequence, start};
 
-/// The threads of a scenario and the adapter, between two turns.
+/// The threads of a scenario and the adapter, over the words that they share, between two turns.
 #[derive(Drop)]
 pub struct World {
     scenario: Snapshot<Scenario>,
     programs: Vec<Sequence<Call>>,
     plan: Plan,
+    /// The state of verbs queues before the first turn.
+    first: Abstract,
     run: Run,
-    turns: Vec<Turn>,
 }
 
 impl Model for World {
@@ -37,50 +44,35 @@ impl Model for World {
     ghost invariant = { IsWorld };
 }
 
-/// What a run leaves.
-#[derive(Debug, Drop)]
-pub struct Outcome {
-    pub history: Sequence<Entry>,
-}
-
 impl World {
     /// The world of a scenario before its first turn, with room for all that its turns make.
     pub fn from_scenario(alloc: Global, scenario: &Scenario) -> Result<World, NoMemory>
         ensures { IfOk result (λ w. w ≡ record { parts = scenario.now; turns = [] }) }
     {
-        match World::reserved(alloc, scenario) {
-            Ok(world) => Ok(world),
-            Err(_) => Err(NoMemory),
-        }
-    }
-
-    fn reserved(alloc: Global, scenario: &Scenario) -> Result<World, AllocError>
-        ensures { IfOk result (λ w. w ≡ record { parts = scenario.now; turns = [] }) }
-    {
+        counts_grow();
         let programs = copy_of_programs(alloc, scenario.programs())?;
         let plan = copy_of_plan(alloc, scenario.plan())?;
-        let run = Run::fresh(alloc, scenario.declared(), programs.len())?;
-        let turns = Vec::with_capacity(alloc, turns_of(programs.len(), scenario.plan()))?;
+        let first = start(alloc, scenario.declared())?;
+        let run = first_run(alloc, scenario)?;
         Ok(World {
             scenario: Snapshot::of(scenario),
             programs,
             plan,
+            first,
             run,
-            turns,
         })
     }
 
-    /// A turn of the adapter, or of a thread of the scenario. It takes no memory; a turn of an actor to whom
-    /// nothing is due makes no entry.
+    /// A turn of the adapter, or of a thread of the scenario: one operation, but of a thread that has ended none. It
+    /// takes no memory.
     pub fn turn(&mut self, actor: u8)
         requires left { length self.old.turns < turn_count (length self.old.parts.lines.threads) self.old.parts.plan }
         requires actor { actor ≤ length self.old.parts.programs }
         ensures { self.new ≡ record self.old { turns = self.old.turns ++ actor ∷ [] } }
     {
-        let made = self
-            .run
-            .turn(&self.scenario, self.programs.as_slice(), actor);
-        self.turns.push_reserved(Turn { actor, made });
+        // How far the adapter's counts rise.
+        counts_grow();
+        self.run.turn(actor);
     }
 
     /// All turns of the scenario's plan. It takes no memory.
@@ -133,7 +125,7 @@ impl World {
     {
         match &self.plan {
             Plan::Idle | Plan::Rounds(_) => None,
-            Plan::Schedule(items) => items.as_slice().get(index).copied(),
+            Plan::Schedule(items) => item_at(items.as_slice(), index),
         }
     }
 
@@ -179,20 +171,30 @@ impl World {
         self.programs.len() as u8
     }
 
-    /// The history that the turns made.
+    /// The operations that the turns made, and the history that they spell.
     pub fn finish(self, alloc: Global) -> Result<Outcome, NoMemory>
-        ensures { IfOk result (λ o. IsRun self.parts.lines self.parts.programs self.turns o.history) }
+        ensures { IfOk result (IsOutcome self.parts self.turns) }
     {
-        match history_of(
-            alloc,
-            self.programs.as_slice(),
-            self.run.completions.as_slice(),
-            self.turns.as_slice(),
-        ) {
-            Ok(history) => Ok(Outcome {
-                history: Sequence::from_vec(history),
-            }),
-            Err(_) => Err(NoMemory),
-        }
+        // The history is legal, and so it is the one that the notes tell.
+        ready();
+        woven();
+        run_is_bounded();
+        let first = self.first;
+        let turns = self.run.turns.as_slice();
+        let trace = copy_of_trace(alloc, &self.run.bus)?;
+        let marks = marks_of(alloc, turns)?;
+        let history = history_of(alloc, first, self.programs.as_slice(), turns)?;
+        Ok(Outcome {
+            trace,
+            marks,
+            history: Sequence::from_vec(history),
+        })
     }
+}
+
+/// The item at a place, if there is one.
+fn item_at(items: &[PlanItem], index: usize) -> Option<PlanItem>
+    ensures { result ≡ slice_get items.now index }
+{
+    items.get(index).copied()
 }

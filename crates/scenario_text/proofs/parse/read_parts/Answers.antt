@@ -3,6 +3,7 @@ use Rattle.std.specs.Option.{option_copied}
 use Rattle.scenario_text.specs.Sofar.{view_of}
 use Rattle.scenario_text.specs.Text.{parts}
 use Rattle.scenario_text.specs.Whole.{HasFault}
+use Rattle.scenario_text.proofs.Ends.{ends_declared}
 use Rattle.scenario_text.proofs.Reading.{reads_first, reads_next, breaks_at, unended_at, ends_at, shorter_by, whole_by, some_left, none_left, found_says, fault_says}
 use Rattle.scenario_text.proofs.parse.read_parts.Goals as goal
 
@@ -51,3 +52,6 @@ returns-clause-found c = found_says c.finish.result (view_of c.loop-rest.sofar) 
 
 pub returns-clause-fault : goal.returns-clause-fault
 returns-clause-fault c = fault_says c.finish.result (view_of c.loop-rest.sofar) c.args.text.now (ends_at c.args.text.now c.loop-rest.rest.now (view_of c.loop-rest.sofar) c.loop-rest.invariant (none_left c.is_empty.result c.loop-rest.rest.now c.is_empty.ensures c.loop-rest-test.false)) c.finish.ensures.fault
+
+pub finish-requires : goal.finish-requires
+finish-requires c = record { declared = ends_declared (view_of c.loop-rest.sofar) c.loop-rest.invariant.kept }

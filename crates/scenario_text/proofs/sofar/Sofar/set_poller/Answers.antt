@@ -1,5 +1,5 @@
 use Rattle.std.proofs.Common.{ℕ, Some, ap, refl, ◌∙◌, List, length}
-use Rattle.scenario_text.specs.After as after
+use Rattle.scenario_text.specs.AfterCalls as after
 use Rattle.scenario_text.specs.Sofar.{Said, view_of}
 use Rattle.scenario_text.specs.declared.sofar.QueueUse.{QueueUse}
 use Rattle.scenario_text.proofs.Changes.{change_of, change_not}

@@ -1,6 +1,6 @@
 use Rattle.std.proofs.Common.{◌-◌, ℕ, Some, ap, ◌∙◌, List, length}
 use Rattle.verbs_model.specs.declared.declaration.TheConstants.{FIRST_QP}
-use Rattle.scenario_text.specs.After as after
+use Rattle.scenario_text.specs.AfterCalls as after
 use Rattle.scenario_text.specs.Sofar.{Said, view_of}
 use Rattle.scenario_text.specs.declared.sofar.PairUse.{PairUse}
 use Rattle.scenario_text.proofs.Changes.{change_of, change_not}

@@ -3,7 +3,7 @@ use Rattle.std.proofs.Common.{◌≡◌, ◌<◌, ◌∙◌, sym, ap, arith, len
 use Rattle.std.specs.List.{flat_map}
 use Rattle.scenario_text.specs.Running.{items_of_plan}
 use Rattle.world_core.specs.World.{WorldView}
-use Rattle.world_core.proofs.Worlds.{item_turns, turns_fit, planned_more, planned_all, item_there}
+use Rattle.world_core.proofs.Plans.{item_turns, turns_fit, planned_more, planned_all, item_there}
 use Rattle.world_core.proofs.world.World.run_items.Goals as goal
 use Rattle.world_core.proofs.world.World.run_items.Goals.{in-Some, in_default}
 

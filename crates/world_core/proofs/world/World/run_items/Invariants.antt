@@ -2,7 +2,7 @@
 use Rattle.std.proofs.Common.{◌≡◌, take}
 use Rattle.std.specs.List.{flat_map}
 use Rattle.scenario_text.specs.Running.{items_of_plan}
-use Rattle.world_core.proofs.Worlds.{item_turns}
+use Rattle.world_core.proofs.Plans.{item_turns}
 use Rattle.world_core.proofs.world.World.run_items.Given as goal
 
 abbrev pub invariant-loop-index : goal.invariant-loop-index

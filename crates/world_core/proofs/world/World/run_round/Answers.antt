@@ -1,6 +1,6 @@
 -- One more thread's turn, and then the adapter's.
 use Rattle.std.proofs.Common.{arith}
-use Rattle.world_core.proofs.Worlds.{round_left, round_more}
+use Rattle.world_core.proofs.Plans.{round_left, round_more}
 use Rattle.world_core.proofs.world.World.run_round.Goals as goal
 
 pub turn-requires-clause-left : goal.turn-requires-clause-left

@@ -1,5 +1,5 @@
 -- One more round.
-use Rattle.world_core.proofs.Worlds.{rounds_left, rounds_next}
+use Rattle.world_core.proofs.Plans.{rounds_left, rounds_next}
 use Rattle.world_core.proofs.world.World.run_rounds.Goals as goal
 
 pub run_round-requires : goal.run_round-requires

@@ -1,16 +1,33 @@
--- The world after one more turn.
-use Rattle.std.proofs.Common.{ℕ, sym, subst, List, [], ◌∷◌, ◌++◌}
-use Rattle.std.specs.Vec.{vec_capacity}
-use Rattle.world_core.specs.declared.turn.Turn.{Turn}
-use Rattle.world_core.specs.View.{view_of}
-use Rattle.world_core.specs.WorldInside.{IsWorldOf}
-use Rattle.world_core.proofs.Worlds.{world_turn}
+-- The run has what a turn asks, and holds after it.
+use Rattle.std.proofs.Common.{◌≡◌, ◌<◌, ◌≤◌, ◌∙◌, sym, ap, subst, arith, ℕ, List, [], ◌∷◌, ◌++◌, length, map}
+use Rattle.std.proofs.lemmas.List.{length-map}
+use Rattle.noted_history.specs.declared.log.Turn.{Turn}
+use Rattle.scenario_text.specs.Limits.{turn_count}
+use Rattle.world_core.specs.Holding.{actor_of}
+use Rattle.world_core.specs.RunInside.{run_view}
+use Rattle.world_core.specs.World.{WorldView}
+use Rattle.world_core.proofs.Ready.{can_turn}
+use Rattle.world_core.proofs.Worlds.{turn_holds, one_turn}
 use Rattle.world_core.proofs.world.World.turn.Goals as goal
 
+pub turn-requires : goal.turn-requires
+turn-requires c =
+    let made : length (map actor_of c.self.inside.run.turns.items) < turn_count (length c.self.inside.scenario.value.lines.threads) c.self.inside.scenario.value.plan =
+    subst (λ (v : WorldView). length v.turns < turn_count (length v.parts.lines.threads) v.parts.plan) (sym c.self.view_is) c.requires.left in
+    let long : length (map actor_of c.self.inside.run.turns.items) ≡ length c.self.inside.run.turns.items = length-map c.self.inside.run.turns.items actor_of in
+    let among = subst (λ (v : WorldView). c.args.actor ≤ length v.parts.programs) (sym c.self.view_is) c.requires.actor in
+    can_turn c.self.inside.scenario.value (run_view c.self.inside.run) c.self.invariant.scenario c.self.invariant.holds (omega (arith, made, long)) c.args.actor among
+
 pub invariant_of-self : goal.invariant_of-self
-invariant_of-self c =
-    let s = c.self.inside.scenario.value in
-    let r = view_of c.turn-made.new.self in
-    let made = world_turn s c.self.inside.programs.items c.self.inside.plan (view_of c.self.inside.run) r c.self.inside.turns.items (vec_capacity c.self.inside.turns) c.args.actor c.turn-made.result c.self.invariant c.turn-made.ensures in
-    subst (λ (ts : List Turn). IsWorldOf s c.self.inside.programs.items c.self.inside.plan r ts (vec_capacity c.push_reserved.new.self)) (sym c.push_reserved.ensures.items)
-    (subst (λ (n : ℕ). IsWorldOf s c.self.inside.programs.items c.self.inside.plan r (c.self.inside.turns.items ++ record { actor = c.args.actor; made = c.turn-made.result } ∷ []) n) (sym c.push_reserved.ensures.capacity) made)
+invariant_of-self c = record {
+  scenario = c.self.invariant.scenario;
+  programs_are = c.self.invariant.programs_are;
+  plan_is = c.self.invariant.plan_is;
+  first_is = c.self.invariant.first_is;
+  holds = turn_holds c.self.inside.scenario.value (run_view c.self.inside.run) (run_view c.turn.new.self) c.args.actor c.counts_grow.ensures c.self.invariant.holds c.turn.ensures;
+}
+
+pub returns : goal.returns
+returns c =
+    ap (λ (actors : List ℕ). record { parts = c.self.inside.scenario.value; turns = actors }) (one_turn (run_view c.self.inside.run) (run_view c.turn.new.self) c.args.actor c.turn.ensures)
+    ∙ ap (λ (v : WorldView). record { parts = v.parts; turns = v.turns ++ c.args.actor ∷ [] }) c.self.view_is

@@ -1,0 +1,9 @@
+pub mod Declared
+pub mod Owners
+pub mod Uses
+pub mod Owned
+pub mod Dues
+pub mod Starting
+pub mod Carried
+pub mod Threads
+pub mod Ready

@@ -1,0 +1,70 @@
+-- What the turns of a world leave.
+use Rattle.std.proofs.Common.{◌≡◌, ◌∙◌, refl, sym, ap, subst, ℕ, suc, List, [], map, slice_index}
+use Rattle.bus_core.specs.declared.operation.BusEntry.{BusEntry}
+use Rattle.bus_core.specs.Mark.{Marked, entries}
+use Rattle.bus_core.specs.Trace.{IsConsistent}
+use Rattle.verbs_model.specs.declared.call.Call.{Call}
+use Rattle.verbs_model.specs.declared.declaration.Lines.{Lines}
+use Rattle.verbs_model.specs.declared.entry.Entry.{Entry}
+use Rattle.verbs_model.specs.Sane.{Bounds}
+use Rattle.verbs_model.specs.Start.{start}
+use Rattle.verbs_model.specs.State.{Verbs}
+use Rattle.object_places.specs.Objects.{Mark}
+use Rattle.actor_rules.specs.Actors.{fresh_actors}
+use Rattle.actor_rules.specs.Ready.{AreReady}
+use Rattle.actor_rules.specs.Run.{IsRun, IsHistory, history}
+use Rattle.actor_rules.proofs.Woven.{own_keep}
+use Rattle.operation_bounds.specs.Run.{IsBoundedRun}
+use Rattle.scenario_text.specs.declared.scenario.ScenarioParts.{ScenarioParts}
+use Rattle.scenario_text.specs.Running.{CanRun}
+use Rattle.ready_scenarios.specs.Ready.{IsReady, bounds_of}
+use Rattle.noted_history.specs.Marks.{marks_in}
+use Rattle.noted_history.specs.Told.{IsTold}
+use Rattle.world_core.specs.declared.outcome.Outcome.{Outcome}
+use Rattle.world_core.specs.Holding.{actor_of, Holds}
+use Rattle.world_core.specs.Outcome.{IsOutcome, marks_of}
+use Rattle.world_core.specs.Run.{RunView}
+
+-- what the laws say
+abbrev pub Law : Type 0
+Law = (d : Lines) (programs : List (List Call)) (bounds : Bounds) (trace : List (Marked Mark)) → AreReady d programs bounds → IsRun d programs trace → IsHistory d programs (history d programs trace)
+
+abbrev pub BoundLaw : Type 0
+BoundLaw = (d : Lines) (programs : List (List Call)) (bounds : Bounds) (trace : List (Marked Mark)) → AreReady d programs bounds → IsRun d programs trace → IsBoundedRun d programs trace
+
+abbrev pub ReadyLaw : Type 0
+ReadyLaw = (s : ScenarioParts) → CanRun s → IsReady s
+
+module _ (s : ScenarioParts) (v : RunView) (h : Holds s v) (consistent : IsConsistent (slice_index v.bus.start) v.bus.trace) where
+  pub run_is : IsRun s.lines s.programs h.trace
+  run_is = record {
+    consistent = subst (λ (ws : List ℕ). IsConsistent (slice_index ws) (entries h.trace)) h.bus.start
+        (subst (λ (es : List BusEntry). IsConsistent (slice_index v.bus.start) es) (sym h.bus.operations) consistent);
+    keeps = own_keep s.lines h.trace (fresh_actors s.lines s.programs) h.made.keeps;
+  }
+
+  -- by the law of all actors
+  pub history_is_legal : Law → ReadyLaw → CanRun s → IsHistory s.lines s.programs (history s.lines s.programs h.trace)
+  history_is_legal law ready can = law s.lines s.programs (bounds_of s.lines s.programs) h.trace (ready s can).law run_is
+
+  pub run_is_bounded : BoundLaw → ReadyLaw → CanRun s → IsBoundedRun s.lines s.programs h.trace
+  run_is_bounded law ready can = law s.lines s.programs (bounds_of s.lines s.programs) h.trace (ready s can).law run_is
+
+  module _ (legal : IsHistory s.lines s.programs (history s.lines s.programs h.trace)) where
+    pub told : (first : Verbs) (programs : List (List Call)) → first ≡ start s.lines → programs ≡ s.programs → IsTold first programs v.turns (history s.lines s.programs h.trace)
+    told first programs first_is programs_are =
+        subst (λ (u : Verbs). IsTold u programs v.turns (history s.lines s.programs h.trace)) (sym first_is)
+        (subst (λ (ps : List (List Call)). IsTold (start s.lines) ps v.turns (history s.lines s.programs h.trace)) (sym programs_are)
+        (record { legal = legal.legal; answered = legal.answered; notes = h.made.notes }))
+
+    pub outcome_is : (o : Outcome) → IsBoundedRun s.lines s.programs h.trace → o.trace.items ≡ v.bus.trace → o.marks.items ≡ marks_in v.turns → o.history ≡ history s.lines s.programs h.trace → IsOutcome s (map actor_of v.turns) o
+    outcome_is o bounded trace marks told_is = record {
+      trace = h.trace;
+      operations = h.bus.operations ∙ sym trace;
+      run = run_is;
+      turned = h.made.turned;
+      history_is = told_is;
+      marks_are = marks ∙ h.made.marks;
+      bounded = bounded;
+      legal = subst (IsHistory s.lines s.programs) (sym told_is) legal;
+    }
