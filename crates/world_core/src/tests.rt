@@ -72,10 +72,10 @@ fn rounds_bring_nops_through(rt: HostRuntime) -> Result<(), Fail> {
 #[test]
 fn each_entry_has_a_marked_operation(rt: HostRuntime) -> Result<(), Fail> {
     let outcome = outcome_of(rt.alloc(), b"rounds 100\n")?;
-    let mut marked = 0;
+    let mut marked: usize = 0;
     for mark in outcome.marks.as_slice() {
         if *mark {
-            marked += 1;
+            marked = usize::saturating_add(marked, 1);
         }
     }
     assert_eq!(&rt; outcome.marks.len(), outcome.trace.len());
