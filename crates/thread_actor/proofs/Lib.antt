@@ -15,3 +15,4 @@ pub mod ReadyPolls
 pub mod Turning
 pub mod Adding
 pub mod Starting
+pub mod Tested

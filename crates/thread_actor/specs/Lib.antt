@@ -10,3 +10,4 @@ pub mod Polls
 pub mod Stands
 pub mod NewSides
 pub mod Inside
+pub mod Tested

@@ -9,6 +9,8 @@ mod polls;
 mod posts;
 mod progress;
 mod sides;
+#[cfg(test)]
+mod tests;
 mod thread;
 
 pub use actor::ThreadActor;
