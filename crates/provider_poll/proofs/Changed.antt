@@ -1,5 +1,5 @@
 -- A list whose items are changed one after another.
-use Rattle.std.proofs.Common.{◌≡◌, ℕ, zero, suc, ◌+◌, ◌<◌, ◌++◌, refl, sym, ap, ◌∙◌, subst, arith, List, [], ◌∷◌, length, map, take, drop, get_or, set}
+use Rattle.std.proofs.Common.{◌≡◌, ℕ, zero, suc, ◌+◌, ◌<◌, ◌++◌, ap, ◌∙◌, arith, List, [], ◌∷◌, length, map, take, drop, get_or, set}
 
 module _ {X : Type 0} (f : X → X) where
   set_next : (xs : List X) (i : ℕ) (y : X) → i < length xs → y ≡ get_or (map f (take i xs) ++ drop i xs) i y → set (map f (take i xs) ++ drop i xs) i (f y) ≡ map f (take (suc i) xs) ++ drop (suc i) xs

@@ -1,6 +1,6 @@
 -- The send queues that complete to a declared completion queue.
-use Rattle.std.proofs.Common.{◌≡◌, ℕ, zero, suc, ◌+◌, ◌-◌, ◌*◌, ◌^◌, ◌<◌, ◌≤◌, ◌++◌, ◌==◌, refl, sym, ap, ◌∙◌, subst, arith, Bool, true, false, IsTrue, List, [], ◌∷◌, length, map, filter, get_or, All, if◌then◌else◌, Some, unwrap_or}
-use Rattle.std.proofs.lemmas.List.{map-append}
+use Rattle.std.proofs.Common.{◌≡◌, ℕ, zero, suc, ◌+◌, ◌^◌, ◌<◌, ◌≤◌, ◌++◌, refl, sym, ap, ◌∙◌, subst, arith, Bool, true, false, IsTrue, List, [], ◌∷◌, length, map, filter, All, if◌then◌else◌, Option, Some, None, unwrap_or}
+use Rattle.std.proofs.lemmas.List.{map-append, append-nil}
 use Rattle.std.proofs.lemmas.Simd.{map-map}
 use Rattle.std.proofs.Math.Pow.{pow_mono}
 use Rattle.std.specs.List.{range_with_len}
@@ -23,7 +23,9 @@ use Rattle.provider_poll.specs.Poll.{LiesWithin}
 use Rattle.provider_poll.specs.declared.state.PollState.TheVariants.{Idle}
 use Rattle.provider_poll.specs.Rule.{QueuePlace}
 use Rattle.provider_poll.specs.FollowsRule.{queue_place}
-use Rattle.provider_poll.specs.Fresh.{completes_to, senders, fresh_sender, fresh_poll, BeginsAs}
+use Rattle.provider_poll.specs.Fresh.{completes_to, senders, fresh_sender, fresh_poll, next_place, BeginsAs}
+use Rattle.provider_poll.specs.SendQueues.{HasEachPlace}
+use Rattle.provider_poll.proofs.EachPlace.{grown, passed}
 
 range_more : (a n : ℕ) → range_with_len a (suc n) ≡ range_with_len a n ++ (a + n) ∷ []
 range_more a zero = ap (λ i. i ∷ []) (omega arith)
@@ -52,6 +54,13 @@ module _ (d : Lines) (cq : ℕ) where
       let qs = range_with_len FIRST_QP n in
       ap so_far next ∙ ap (λ is. map (fresh_sender d) (filter p is)) (range_more FIRST_QP n) ∙ ap (map (fresh_sender d)) (filter-append p qs ((FIRST_QP + n) ∷ []))
       ∙ map-append (fresh_sender d) (filter p qs) (filter p ((FIRST_QP + n) ∷ [])) ∙ ap (λ rest. so_far n ++ rest) (one (FIRST_QP + n))
+
+-- the places after the next queue pair
+pub places_more : (d : Lines) (cq qp : ℕ) (places : List (Option ℕ)) (queues : List SendView) → HasEachPlace places queues → qp ≡ FIRST_QP + length places → HasEachPlace (places ++ next_place d cq qp (length queues) ∷ []) (queues ++ next_one d cq qp)
+places_more d cq qp places queues has is = by_test (completes_to d cq qp) where
+  by_test : (b : Bool) → HasEachPlace (places ++ (if b then Some (length queues) else None) ∷ []) (queues ++ (if b then fresh_sender d qp ∷ [] else []))
+  by_test true = grown places queues has (fresh_sender d qp) is
+  by_test false = subst (HasEachPlace (places ++ None ∷ [])) (sym (append-nil queues)) (passed places queues has)
 
 -- what all numbers from the first on have
 all_numbers : (P : ℕ → Type 0) (a n : ℕ) → ((i : ℕ) → i < n → P (a + i)) → All P (range_with_len a n)

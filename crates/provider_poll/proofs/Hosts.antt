@@ -1,10 +1,9 @@
 -- How far a turn moves the host of a completion queue.
-use Rattle.std.proofs.Common.{◌≡◌, ℕ, ◌+◌, ◌≤◌, ◌<◌, ◌++◌, ◌==◌, refl, sym, subst, arith, Bool, true, false, List, [], ◌∷◌, length, Option, Some, None, if◌then◌else◌}
+use Rattle.std.proofs.Common.{◌≡◌, ℕ, ◌+◌, ◌≤◌, ◌++◌, ◌==◌, refl, sym, subst, arith, Bool, true, false, List, [], ◌∷◌, length, Option, Some, None, if◌then◌else◌}
 use Rattle.bus_core.specs.declared.operation.BusEntry.{BusEntry}
 use Rattle.bus_core.specs.declared.turn.Step.{Step}
 use Rattle.bus_core.specs.declared.turn.Step.TheVariants.{More, Gave, Done}
 use Rattle.bus_core.specs.Operation.{loaded}
-use Rattle.cqe_format.specs.declared.completion.Cqe.{Cqe}
 use Rattle.owner_ring.specs.Consumer.{Consumer, Waiting, Reading, next_index}
 use Rattle.owner_ring.specs.Place.{is_owned}
 use Rattle.owner_ring.specs.Ring.{RingEvent}
@@ -13,10 +12,8 @@ use Rattle.cq_pair.specs.declared.host.CqDone.{CqDone}
 use Rattle.cq_pair.specs.declared.host.CqDone.TheVariants.{Took, Empty, Acked}
 use Rattle.cq_pair.specs.declared.place.CqPlace.{CqPlace}
 use Rattle.cq_pair.specs.Place.{ring_of}
-use Rattle.cq_pair.specs.Mark.{Look, Read, Take}
 use Rattle.cq_pair.specs.Host.{MayPoll, after_poll}
 use Rattle.cq_pair.specs.HostView.{HostView, HostTask, HostTurn, PollOne, Acknowledgement, poll_mark}
-use Rattle.cq_pair.specs.Turn.{task_after}
 use Rattle.provider_poll.specs.PollInside.{entry_index}
 use Rattle.provider_poll.specs.Turns.{working, IsPollingHost}
 

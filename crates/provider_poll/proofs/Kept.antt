@@ -1,6 +1,6 @@
 -- What a side that polls keeps from turn to turn.
 use Rattle.std.proofs.lemmas.Bool.Decides.{nat_tests}
-use Rattle.std.proofs.Common.{◌≡◌, ℕ, zero, suc, ◌+◌, ◌≤◌, ◌<◌, ◌^◌, ◌++◌, ◌==◌, nat_lt, refl, sym, ap, ◌∙◌, subst, arith, Bool, true, false, List, [], ◌∷◌, length, length-append, position, Option, Some, None, unwrap_or, if◌then◌else◌, slice_get, slice_set}
+use Rattle.std.proofs.Common.{◌≡◌, ℕ, zero, suc, ◌+◌, ◌≤◌, ◌<◌, ◌^◌, ◌++◌, ◌==◌, nat_lt, refl, sym, ap, subst, arith, Bool, true, false, List, [], ◌∷◌, length, length-append, position, Option, Some, None, unwrap_or, if◌then◌else◌, slice_get, slice_set}
 use Rattle.std.specs.List.{position_or_len}
 use Rattle.arrayvec.specs.ArrayVec.{ArrayVec, array_vec_len}
 use Rattle.bus_core.specs.declared.operation.BusEntry.{BusEntry}
@@ -11,12 +11,11 @@ use Rattle.owner_ring.specs.Consumer.{next_index}
 use Rattle.cqe_format.specs.declared.completion.Cqe.{Cqe}
 use Rattle.cq_pair.specs.declared.host.CqDone.{CqDone}
 use Rattle.cq_pair.specs.declared.host.CqDone.TheVariants.{Took, Empty, Acked}
-use Rattle.cq_pair.specs.HostView.{HostView, HostTask, HostTurn, PollOne, Acknowledgement}
+use Rattle.cq_pair.specs.HostView.{HostView, HostTurn, PollOne, Acknowledgement}
 use Rattle.cq_pair.specs.Turn.{task_after}
 use Rattle.counted_ring.specs.declared.retirer.Retired.{Retired}
 use Rattle.counted_ring.specs.declared.retirer.Retired.TheVariants.{Found, Tail}
 use Rattle.provider_poll.specs.declared.state.End.{End}
-use Rattle.provider_poll.specs.declared.state.PollState.{PollState}
 use Rattle.provider_poll.specs.declared.state.PollState.TheVariants.{Polling}
 use Rattle.provider_poll.specs.declared.turned.Turned.{Turned}
 use Rattle.provider_poll.specs.Completion.{is_of_request, completion_of}

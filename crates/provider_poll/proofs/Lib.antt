@@ -4,5 +4,6 @@ pub mod Kept
 pub mod Places
 pub mod Retirers
 pub mod Rule
+pub mod EachPlace
 pub mod Fresh
 pub mod Sides

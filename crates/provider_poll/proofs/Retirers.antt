@@ -1,5 +1,5 @@
 -- What a retirer is at between two turns, and its turns as operations of its rule.
-use Rattle.std.proofs.Common.{◌≡◌, ◌↔◌, ℕ, ◌+◌, inl, inr, refl, sym, ap, ◌∙◌, Bool, true, false, IsTrue, Option, Some, None, if◌then◌else◌, nat_lt, ◌^◌}
+use Rattle.std.proofs.Common.{◌≡◌, ◌↔◌, ℕ, ◌+◌, inr, refl, sym, ap, ◌∙◌, Bool, true, false, IsTrue, Option, Some, None, if◌then◌else◌, nat_lt, ◌^◌}
 use Rattle.bus_core.specs.declared.operation.BusEntry.{BusEntry}
 use Rattle.bus_core.specs.declared.turn.Step.{Step}
 use Rattle.bus_core.specs.declared.turn.Step.TheVariants.{More, Gave, Done}
@@ -8,11 +8,11 @@ use Rattle.counted_ring.specs.declared.place.WqPlace.{WqPlace}
 use Rattle.counted_ring.specs.declared.retirer.Retired.{Retired}
 use Rattle.counted_ring.specs.Place.{is_send}
 use Rattle.counted_ring.specs.Queue.{Named, Found}
-use Rattle.counted_ring.specs.Mark.{WqMark, Lookup, Count, Retire}
-use Rattle.counted_ring.specs.Retirer.{Asked, Retirer, forgotten_side, end_after}
+use Rattle.counted_ring.specs.Mark.{WqMark, Lookup, Retire}
+use Rattle.counted_ring.specs.Retirer.{Asked, Retirer}
 use Rattle.counted_ring.specs.RetirerView.{RetirerView, RetirerTask, RetirerTurn, Lookups, Retirement, MayServe, after_serve, served, is_found, answered}
 use Rattle.counted_ring.specs.Turn.{task_after}
-use Rattle.provider_poll.specs.SendQueue.{SendView, task_of, is_idle, asking, asking_with, retiring}
+use Rattle.provider_poll.specs.SendQueue.{SendView, task_of, is_idle, asking, retiring}
 use Rattle.provider_poll.specs.Rule.{lookup_in}
 
 -- its task shows whether it is idle

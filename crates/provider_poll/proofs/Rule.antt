@@ -1,5 +1,5 @@
 -- Turns of the machine as operations of its rule.
-use Rattle.std.proofs.Common.{◌≡◌, ℕ, refl, sym, ap, ◌∙◌, subst, List, [], ◌∷◌, map, slice_get, slice_set, Option, Some, None}
+use Rattle.std.proofs.Common.{◌≡◌, ℕ, refl, sym, ap, ◌∙◌, List, [], ◌∷◌, map, slice_get, slice_set, Option, Some}
 use Rattle.std.proofs.lemmas.List.{map-set}
 use Rattle.arrayvec.specs.ArrayVec.{ArrayVec}
 use Rattle.bus_core.specs.declared.operation.BusEntry.{BusEntry}
@@ -15,7 +15,7 @@ use Rattle.cq_pair.specs.declared.host.CqDone.{CqDone}
 use Rattle.cq_pair.specs.declared.host.CqDone.TheVariants.{Took, Empty, Acked}
 use Rattle.cq_pair.specs.declared.place.CqPlace.{CqPlace}
 use Rattle.cq_pair.specs.Place.{ring_of}
-use Rattle.cq_pair.specs.Mark.{QueueMark, Look, Read, Take, Acknowledge, ring_mark}
+use Rattle.cq_pair.specs.Mark.{QueueMark, Acknowledge, ring_mark}
 use Rattle.cq_pair.specs.Queue as queue
 use Rattle.cq_pair.specs.Queue.{QueueEvent}
 use Rattle.cq_pair.specs.Host.{MayPoll, after_poll, polled}
@@ -23,18 +23,18 @@ use Rattle.cq_pair.specs.HostView.{HostView, poll_mark, answer_says}
 use Rattle.counted_ring.specs.declared.retirer.Retired.{Retired}
 use Rattle.counted_ring.specs.Mark.{WqMark, Retire}
 use Rattle.counted_ring.specs.Retirer.{Retirer}
-use Rattle.counted_ring.specs.RetirerView.{after_serve, served, is_found, answered}
+use Rattle.counted_ring.specs.RetirerView.{served, is_found, answered}
 use Rattle.provider_poll.specs.declared.answer.PollAnswer.{PollAnswer}
 use Rattle.provider_poll.specs.declared.state.End.{End}
 use Rattle.provider_poll.specs.declared.state.PollState.{PollState}
 use Rattle.provider_poll.specs.declared.state.PollState.TheVariants.{Idle, Polling, LookingUp, Retiring, Acking}
 use Rattle.provider_poll.specs.declared.turned.Turned.{Turned}
-use Rattle.provider_poll.specs.SendQueue.{SendView, retirer_of, asking}
+use Rattle.provider_poll.specs.SendQueue.{SendView, retirer_of}
 use Rattle.provider_poll.specs.Turned.{after_look, after_lookup, after_retire, after_ack}
-use Rattle.provider_poll.specs.Turns.{Looks, LooksUp, Retires, Acknowledges, InQueue, acked_index}
-use Rattle.provider_poll.specs.Poll.{PollView, PollTurn, Turns}
-use Rattle.provider_poll.specs.Rule.{QueuePlace, PollPlace, PollRule, PollMark, OnHost, OnQueue, MayPollSide, IsNextOf, MayServeIn, queues_at, queues_of, lookup_in}
-use Rattle.provider_poll.specs.RuleTurned.{host_step, retirer_step, retirers_with, retirers_by, asked_with, after_poll_side, poll_side_turned, seen_by}
+use Rattle.provider_poll.specs.Turns.{InQueue, acked_index}
+use Rattle.provider_poll.specs.Poll.{PollView, PollTurn}
+use Rattle.provider_poll.specs.Rule.{QueuePlace, PollPlace, PollRule, OnHost, OnQueue, MayPollSide, IsNextOf, MayServeIn, queues_at, queues_of, lookup_in}
+use Rattle.provider_poll.specs.RuleTurned.{host_step, retirer_step, retirers_with, retirers_by, asked_with, poll_side_turned, seen_by}
 use Rattle.provider_poll.specs.FollowsRule.{FollowsRule, TurnsFollow, queue_place, place_of, rule_of}
 use Rattle.provider_poll.proofs.Places.{stays}
 use Rattle.provider_poll.proofs.Retirers.{Serves, looks_up, retires}

@@ -1,5 +1,5 @@
 -- The side that polls a declared completion queue, at first.
-use Rattle.std.specs.Prelude.{ℕ, ◌≡◌, ◌==◌, IsTrue, Bool, List, map, filter, length}
+use Rattle.std.specs.Prelude.{ℕ, ◌≡◌, ◌==◌, IsTrue, Bool, List, map, filter, length, Option, Some, None, if◌then◌else◌}
 use Rattle.std.specs.List.{range_with_len}
 use Rattle.verbs_model.specs.declared.declaration.Lines.{Lines}
 use Rattle.verbs_model.specs.declared.declaration.TheConstants.{FIRST_QP}
@@ -25,6 +25,10 @@ fresh_sender d qp = fresh_queue qp (send_of d qp)
 
 abbrev pub fresh_queues : Lines → ℕ → List SendView
 fresh_queues d cq = map (fresh_sender d) (senders d cq)
+
+-- the place of a queue pair's queue after so many
+abbrev pub next_place : Lines → (cq qp queues : ℕ) → Option ℕ
+next_place d cq qp queues = if completes_to d cq qp then Some queues else None
 
 -- The idle side, from the index that the line of the completion queue starts at.
 abbrev pub fresh_poll : Lines → ℕ → PollView

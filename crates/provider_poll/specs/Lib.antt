@@ -3,6 +3,8 @@ pub mod Note
 pub mod NotesFit
 pub mod SendQueue
 pub mod SendInside
+pub mod SendQueues
+pub mod SendQueuesInside
 pub mod Stores
 pub mod Turned
 pub mod Turns

@@ -1,5 +1,5 @@
 -- How the fields of a side that polls are seen.
-use Rattle.std.specs.Prelude.{ℕ, ◌≡◌, ◌+◌, ◌^◌, ◌<◌, ◌≤◌, true, List, [], ◌∷◌, length, Option, Some, None}
+use Rattle.std.specs.Prelude.{ℕ, ◌≡◌, ◌+◌, ◌^◌, ◌<◌, ◌≤◌, true, List, length, None}
 use Rattle.arrayvec.specs.ArrayVec.{ArrayVec, array_vec_len}
 use Rattle.owner_ring.specs.Consumer.{Consumer, Waiting, Reading, next_index}
 use Rattle.cq_pair.specs.HostView.{HostView}
@@ -13,7 +13,7 @@ use Rattle.provider_poll.specs.Turns.{IsPollingHost}
 use Rattle.provider_poll.specs.Poll.{PollView}
 
 abbrev pub poll_view : Inside → PollView
-poll_view a = record { host = a.host; queues = a.queues.items; state = a.state; noted = a.noted }
+poll_view a = record { host = a.host; queues = a.queues; state = a.state; noted = a.noted }
 
 -- the index of the entry that the host looks at or reads
 abbrev pub entry_index : Consumer → ℕ
@@ -48,4 +48,4 @@ IsAtWork host queues (Acking taken empty) = host.task ≡ None
 pub record IsPollSide (a : Inside) : Type 0 where
   pub number : a.number ≡ a.host.place.number
   pub entry : entry_index a.host.side ≤ next_index a.host.side
-  pub work : IsAtWork a.host a.queues.items a.state
+  pub work : IsAtWork a.host a.queues a.state

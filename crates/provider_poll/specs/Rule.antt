@@ -1,10 +1,10 @@
 -- The rule of the side that polls, over its own operations.
-use Rattle.std.specs.Prelude.{ℕ, ◌≡◌, ◌^◌, nat_lt, if◌then◌else◌, List, [], ◌∷◌, slice_get, slice_set, Option, Some, None}
+use Rattle.std.specs.Prelude.{ℕ, ◌≡◌, ◌^◌, nat_lt, if◌then◌else◌, List, [], ◌∷◌, slice_get, Some}
 use Rattle.bus_core.specs.declared.operation.BusEntry.{BusEntry}
 use Rattle.cqe_format.specs.declared.completion.Cqe.{Cqe}
 use Rattle.owner_ring.specs.Consumer.{Consumer, Waiting, Reading, next_index}
 use Rattle.cq_pair.specs.declared.place.CqPlace.{CqPlace}
-use Rattle.cq_pair.specs.Mark.{QueueMark, Publish, Lose, Look, Read, Take, Acknowledge, Foreign}
+use Rattle.cq_pair.specs.Mark.{QueueMark, Look, Read, Take, Acknowledge}
 use Rattle.cq_pair.specs.Host.{MayPoll}
 use Rattle.counted_ring.specs.declared.place.WqPlace.{WqPlace}
 use Rattle.counted_ring.specs.Retirer.{Retirer}
@@ -12,7 +12,7 @@ use Rattle.counted_ring.specs.RetirerView.{MayServe, lookup_mark}
 use Rattle.counted_ring.specs.Mark.{WqMark, Retire}
 use Rattle.provider_poll.specs.declared.state.End.{End}
 use Rattle.provider_poll.specs.declared.state.PollState.{PollState}
-use Rattle.provider_poll.specs.declared.state.PollState.TheVariants.{Idle, Polling, LookingUp, Retiring, Acking}
+use Rattle.provider_poll.specs.declared.state.PollState.TheVariants.{Polling, LookingUp, Retiring, Acking}
 use Rattle.provider_poll.specs.SendQueue.{SendView}
 
 -- where a send queue lies, and of which queue pair it is

@@ -1,5 +1,5 @@
 -- What an operation of the side that polls leaves and tells, by its mark.
-use Rattle.std.specs.Prelude.{ℕ, List, [], ◌∷◌, map, slice_get, slice_set, Option, Some, None}
+use Rattle.std.specs.Prelude.{ℕ, List, [], ◌∷◌, slice_get, slice_set, Option, Some, None}
 use Rattle.bus_core.specs.declared.operation.BusEntry.{BusEntry}
 use Rattle.bus_core.specs.declared.turn.Step.{Step}
 use Rattle.bus_core.specs.declared.turn.Step.TheVariants.{More, Done}
@@ -12,15 +12,14 @@ use Rattle.cq_pair.specs.Mark.{QueueMark, ring_mark}
 use Rattle.cq_pair.specs.Queue.{QueueEvent, Took, Empty, Acked}
 use Rattle.cq_pair.specs.Host.{after_poll, polled}
 use Rattle.counted_ring.specs.declared.retirer.Retired.{Retired}
-use Rattle.counted_ring.specs.Queue.{WqEvent}
 use Rattle.counted_ring.specs.Retirer.{Retirer}
 use Rattle.counted_ring.specs.RetirerView.{after_serve, served, is_found}
 use Rattle.counted_ring.specs.Mark.{WqMark}
 use Rattle.provider_poll.specs.declared.state.End.{End}
 use Rattle.provider_poll.specs.declared.state.PollState.{PollState}
-use Rattle.provider_poll.specs.declared.state.PollState.TheVariants.{Idle, Polling, LookingUp, Retiring, Acking}
+use Rattle.provider_poll.specs.declared.state.PollState.TheVariants.{Polling, LookingUp, Retiring, Acking}
 use Rattle.provider_poll.specs.declared.turned.Turned.{Turned}
-use Rattle.provider_poll.specs.SendQueue.{SendView, fresh_retirer}
+use Rattle.provider_poll.specs.SendQueue.{SendView}
 use Rattle.provider_poll.specs.Turned.{after_look, after_lookup, after_retire, after_ack}
 use Rattle.provider_poll.specs.Turns.{acked_index}
 use Rattle.provider_poll.specs.Rule.{PollPlace, PollRule, PollMark, OnHost, OnQueue, queues_at, queues_of}

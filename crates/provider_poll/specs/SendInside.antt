@@ -1,5 +1,5 @@
 -- How the fields of a send queue are seen.
-use Rattle.std.specs.Prelude.{ℕ, ◌≡◌, ◌^◌, ◌<◌, true}
+use Rattle.std.specs.Prelude.{◌≡◌, ◌^◌, ◌<◌, true}
 use Rattle.counted_ring.specs.Place.{is_send}
 use Rattle.provider_poll.specs.declared.send_queue.SendQueue.TheInside.{Inside}
 use Rattle.provider_poll.specs.SendQueue.{SendView, task_of}

@@ -6,12 +6,11 @@ use Rattle.bus_core.specs.declared.turn.Step.TheVariants.{More, Gave, Done}
 use Rattle.verbs_model.specs.declared.completion.Completion.{Completion}
 use Rattle.cqe_format.specs.declared.completion.Cqe.{Cqe}
 use Rattle.cq_pair.specs.declared.host.CqDone.{CqDone}
-use Rattle.cq_pair.specs.declared.host.CqDone.TheVariants.{Took, Empty, Acked}
+use Rattle.cq_pair.specs.declared.host.CqDone.TheVariants.{Took, Empty}
 use Rattle.counted_ring.specs.declared.retirer.Retired.{Retired}
-use Rattle.counted_ring.specs.declared.retirer.Retired.TheVariants.{Found, Tail}
+use Rattle.counted_ring.specs.declared.retirer.Retired.TheVariants.{Found}
 use Rattle.provider_poll.specs.declared.answer.PollAnswer.TheVariants.{Polled}
 use Rattle.provider_poll.specs.declared.state.End.{End}
-use Rattle.provider_poll.specs.declared.state.PollState.{PollState}
 use Rattle.provider_poll.specs.declared.state.PollState.TheVariants.{Idle, Polling, LookingUp}
 use Rattle.provider_poll.specs.declared.turned.Turned.{Turned}
 use Rattle.provider_poll.specs.Completion.{is_of_request, completion_of}

@@ -1,5 +1,5 @@
 -- The four kinds of operations of a poll.
-use Rattle.std.specs.Prelude.{ℕ, ◌≡◌, ◌<◌, List, map, All, slice_set, slice_get, length, Option, Some, None}
+use Rattle.std.specs.Prelude.{ℕ, ◌≡◌, List, map, All, slice_set, slice_get, Option, Some, None}
 use Rattle.arrayvec.specs.ArrayVec.{ArrayVec}
 use Rattle.bus_core.specs.declared.operation.BusEntry.{BusEntry}
 use Rattle.bus_core.specs.declared.turn.Step.{Step}
@@ -11,6 +11,7 @@ use Rattle.cq_pair.specs.declared.host.CqDone.TheVariants.{Acked}
 use Rattle.cq_pair.specs.HostView.{HostView, HostTask, HostTurn, PollOne, Acknowledgement}
 use Rattle.counted_ring.specs.declared.place.WqPlace.{WqPlace}
 use Rattle.counted_ring.specs.declared.retirer.Retired.{Retired}
+use Rattle.counted_ring.specs.RetirerView.{RetirerView}
 use Rattle.object_places.specs.Places.{IsWithin}
 use Rattle.provider_poll.specs.declared.state.End.{End}
 use Rattle.provider_poll.specs.declared.turned.Turned.{Turned}
@@ -46,6 +47,19 @@ pub record Looks (number : ℕ) (old new : HostView) (queues : List SendView) (m
 pub record InQueue (old new : List SendView) (queue : ℕ) (before after : SendView) : Type 0 where
   pub found : slice_get old queue ≡ Some before
   pub queues : new ≡ slice_set old queue after
+
+-- the queue of this place goes on at its work
+pub record TurnsOne (old new : List SendView) (queue : ℕ) (work : SendView → RetirerView) (e : BusEntry) (step : Step (Unit {0}) Retired) : Type 0 where
+  pub before : SendView
+  pub after : SendView
+  pub within : InQueue old new queue before after
+  pub queue_turn : SendTurn before after (work before) e step
+
+-- an end is stored in its queue, which is that of this queue pair
+pub record StoresOne (old new : List SendView) (end : End) (e : BusEntry) (pair : ℕ) : Type 0 where
+  pub step : Step (Unit {0}) Retired
+  pub turns : TurnsOne old new end.queue (retiring end.end) e step
+  pub pair_is : pair ≡ turns.before.number
 
 -- the lookup of the completion goes on, in its queue
 pub record LooksUp (number seen : ℕ) (old new : List SendView) (max : ℕ) (ends : ArrayVec End) (c : Cqe) (queue : ℕ) (e : BusEntry) (turned : Turned) : Type 0 where

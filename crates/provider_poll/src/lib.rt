@@ -13,6 +13,7 @@ pub mod laws;
 mod note;
 mod poll;
 mod send_queue;
+mod send_queues;
 mod senders;
 mod state;
 mod stores;
@@ -23,5 +24,4 @@ mod turns;
 
 pub use answer::PollAnswer;
 pub use poll::PollSide;
-pub use send_queue::SendQueue;
 pub use state::{End, PollState};

@@ -1,28 +1,25 @@
 //! The side of a completion queue that a thread polls.
-ghost use Rattle.std.specs.Prelude.{◌≡◌, ◌<◌, ◌≤◌, ◌^◌, ◌↔◌, IsTrue, IfOk, length, map};
-ghost use Rattle.provider_poll.specs.SendQueue.{forgotten_queue};
+ghost use Rattle.std.specs.Prelude.{◌≡◌, ◌<◌, ◌≤◌, ◌^◌, ◌↔◌, IsTrue, IfOk, length};
 ghost use Rattle.bus_core.specs.Port.{Appends};
 ghost use Rattle.bus_core.specs.declared.operation.BusEntry.{BusEntry};
 ghost use Rattle.verbs_model.specs.Lines.{is_among};
 ghost use Rattle.actor_map.specs.Map.{map_of};
 ghost use Rattle.actor_map.specs.Sizes.{words_of};
-ghost use Rattle.owner_ring.specs.Place.{IsPlace};
 ghost use Rattle.owner_ring.specs.Consumer.{next_index};
-ghost use Rattle.cq_pair.specs.Place.{ring_of};
 ghost use Rattle.provider_poll.specs.declared.state.PollState.TheVariants.{Idle};
 ghost use Rattle.provider_poll.specs.Fresh.{fresh_poll};
-ghost use Rattle.provider_poll.specs.Poll.{PollTurn, CanPoll, LiesWithin, IsBusy, MayDrop, fresh_side, begun, forgotten};
+ghost use Rattle.provider_poll.specs.Poll.{PollTurn, CanPoll, LiesWithin, IsBusy, MayDrop, begun, forgotten};
 
 use crate::answer::PollAnswer;
 use crate::laws;
-use crate::send_queue::SendQueue;
+use crate::send_queues::SendQueues;
 use crate::senders::fresh_queues;
 use crate::state::PollState;
 use crate::turns::{acknowledge, look, look_up, retire};
 use actor_map::AddressMap;
 use arrayvec::ArrayVec;
 use bus_core::{BusPort, Note, Step};
-use cq_pair::{CqHost, CqPlace};
+use cq_pair::CqHost;
 use object_places::completion_place;
 use std::alloc::Global;
 use std::marker::Model;
@@ -40,7 +37,7 @@ pub struct PollSide {
     /// The number of the completion queue.
     number: u32,
     host: CqHost,
-    queues: Vec<SendQueue>,
+    queues: SendQueues,
     state: PollState,
     noted: Option<Note>,
 }
@@ -75,22 +72,13 @@ impl PollSide {
         laws::lies_within();
         let queues = fresh_queues(alloc, d, map, object)?;
         let start = d.lines().cqs.as_slice()[object as usize].start;
-        Ok(PollSide::over(completion_place(d, map, object), start, queues))
-    }
-
-    /// An idle side of a completion queue whose first completion has the index `start`, and to which these
-    /// send queues complete.
-    pub fn over(place: CqPlace, start: u64, queues: Vec<SendQueue>) -> PollSide
-        requires { IsPlace (ring_of place) }
-        ensures { result ≡ fresh_side place start queues.items }
-    {
-        PollSide {
-            number: place.number,
-            host: CqHost::new(place, start),
+        Ok(PollSide {
+            number: object,
+            host: CqHost::new(completion_place(d, map, object), start),
             queues,
             state: PollState::Idle,
             noted: None,
-        }
+        })
     }
 
     /// Starts a poll of at most so many completions, 1 to 16.
@@ -138,7 +126,7 @@ impl PollSide {
         ensures { self.new ≡ forgotten self.old }
     {
         self.host.forget();
-        forget_all(self.queues.as_mut_slice());
+        self.queues.forget();
         self.state = PollState::Idle;
         self.noted = None;
     }
@@ -152,8 +140,7 @@ impl PollSide {
         match mem::replace(&mut self.state, PollState::Idle) {
             PollState::Idle => unreachable!(),
             PollState::Polling { max, ends } => {
-                let queues = self.queues.as_slice();
-                let turned = look(self.number, &mut self.host, queues, max, ends, port);
+                let turned = look(self.number, &mut self.host, &self.queues, max, ends, port);
                 self.state = turned.state;
                 self.noted = turned.noted;
                 turned.answer
@@ -165,11 +152,10 @@ impl PollSide {
                 queue,
             } => {
                 let seen = self.host.seen().a;
-                let queues = self.queues.as_mut_slice();
                 let turned = look_up(
                     self.number,
                     seen,
-                    queues,
+                    &mut self.queues,
                     max,
                     ends,
                     completion,
@@ -186,8 +172,7 @@ impl PollSide {
                 mut left,
             } => {
                 let first = left.remove(0);
-                let queues = self.queues.as_mut_slice();
-                let turned = retire(queues, taken, empty, first, left, port);
+                let turned = retire(&mut self.queues, taken, empty, first, left, port);
                 self.state = turned.state;
                 self.noted = turned.noted;
                 turned.answer
@@ -199,14 +184,5 @@ impl PollSide {
                 turned.answer
             }
         }
-    }
-}
-
-/// Drops what each queue has under way.
-fn forget_all(queues: &mut [SendQueue])
-    ensures { queues.new ≡ map forgotten_queue queues.old }
-{
-    for queue in queues.iter_mut() {
-        queue.forget();
     }
 }

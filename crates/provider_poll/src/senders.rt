@@ -7,6 +7,7 @@ ghost use Rattle.actor_map.specs.Sizes.{words_of};
 ghost use Rattle.provider_poll.specs.Fresh as words;
 
 use crate::send_queue::SendQueue;
+use crate::send_queues::SendQueues;
 use actor_map::AddressMap;
 use object_places::send_place;
 use std::alloc::Global;
@@ -19,16 +20,19 @@ pub(crate) fn fresh_queues(
     d: &Declared,
     map: &AddressMap,
     object: u32,
-) -> Result<Vec<SendQueue>, NoMemory>
+) -> Result<SendQueues, NoMemory>
     requires map { map.now ≡ map_of d.now }
     requires fits { words_of d.now ≤ 2 ^ 20 }
-    ensures { IfOk result (λ queues. queues.items ≡ words.fresh_queues d.now object) }
+    ensures { IfOk result (λ queues. queues ≡ words.fresh_queues d.now object) }
 {
     let mut queues = Vec::new(alloc);
-    for place in 0..queue_pairs(d) {
-        add(&mut queues, d, map, object, FIRST_QP + place)?;
+    let mut places = Vec::new(alloc);
+    for pair in 0..queue_pairs(d) {
+        let place = next_place(d, object, FIRST_QP + pair, queues.len());
+        add_place(&mut places, place)?;
+        add(&mut queues, d, map, object, FIRST_QP + pair)?;
     }
-    Ok(queues)
+    Ok(SendQueues::over(queues, places))
 }
 
 /// How many queue pairs there are.
@@ -37,6 +41,28 @@ fn queue_pairs(d: &Declared) -> u32
     ensures few { result ≤ 64 }
 {
     d.lines().qps.len() as u32
+}
+
+/// The place of the queue of a queue pair after so many; none where it completes elsewhere.
+fn next_place(d: &Declared, object: u32, qp: u32, queues: usize) -> Option<usize>
+    requires { IsTrue (is_among FIRST_QP (length d.now.qps) qp) }
+    ensures { result ≡ words.next_place d.now object qp queues }
+{
+    if completes_to(d, object, qp) {
+        Some(queues)
+    } else {
+        None
+    }
+}
+
+/// Adds the place of the next queue pair's queue.
+fn add_place(places: &mut Vec<Option<usize>>, place: Option<usize>) -> Result<(), NoMemory>
+    ensures { OnOk result (places.new.items ≡ places.old.items ++ place ∷ []) }
+{
+    match places.push(place) {
+        Ok(()) => Ok(()),
+        Err(_) => Err(NoMemory),
+    }
 }
 
 /// Adds the send queue of a queue pair, where it completes to the completion queue `object`.

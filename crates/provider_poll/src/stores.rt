@@ -2,14 +2,14 @@
 ghost use Rattle.std.specs.Prelude.{◌≡◌};
 ghost use Rattle.provider_poll.specs.Stores as words;
 
-use crate::send_queue::SendQueue;
+use crate::send_queues::SendQueues;
 use crate::state::{End, Ends, PollState};
 
 /// A poll that took so many completions, before its next store: that of the first of these ends that its
 /// queue may store, or of the consumer index where there is none. An adapter that keeps its rule leaves
 /// no end that may not be stored.
 pub(crate) fn storing(
-    queues: &[SendQueue],
+    queues: &SendQueues,
     taken: u32,
     empty: Option<u64>,
     mut left: Ends,
@@ -27,21 +27,11 @@ pub(crate) fn storing(
 }
 
 /// Whether the first of these ends may be stored, or there is none.
-fn is_ready(queues: &[SendQueue], ends: &[End]) -> bool
+fn is_ready(queues: &SendQueues, ends: &[End]) -> bool
     ensures { result ≡ words.is_ready queues.now ends.now }
 {
     match ends.first() {
         None => true,
-        Some(end) => may_store(queues, end),
-    }
-}
-
-/// Whether the queue of this end may store it.
-fn may_store(queues: &[SendQueue], end: &End) -> bool
-    ensures { result ≡ words.may_store queues.now end.now }
-{
-    match queues.get(end.queue) {
-        None => false,
-        Some(queue) => queue.may_retire(end.end),
+        Some(end) => queues.may_store(end),
     }
 }

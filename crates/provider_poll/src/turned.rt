@@ -5,7 +5,7 @@ ghost use Rattle.provider_poll.specs.Turned as words;
 use crate::answer::PollAnswer;
 use crate::completion::{completion_of, is_of_request};
 use crate::note::{ack_note, poll_note, retire_note};
-use crate::send_queue::SendQueue;
+use crate::send_queues::SendQueues;
 use crate::state::{End, Ends, PollState};
 use crate::stores::storing;
 use bus_core::{Note, Step};
@@ -24,28 +24,21 @@ pub struct Turned {
 }
 
 /// The place of the send queue whose request this completes.
-fn place_of(queues: &[SendQueue], c: &Cqe) -> Option<usize>
+fn place_of(queues: &SendQueues, c: &Cqe) -> Option<usize>
     ensures { result ≡ words.place_of queues.now c.now }
 {
     if is_of_request(c) {
-        place_of_number(queues, c.qpn)
+        queues.place_of(c.qpn)
     } else {
         None
     }
-}
-
-/// The place of the queue of this queue pair.
-fn place_of_number(queues: &[SendQueue], number: u32) -> Option<usize>
-    ensures { result ≡ words.place_of_number queues.now number }
-{
-    queues.iter().position(|queue| queue.number() == number)
 }
 
 /// After an operation of the host's, by its answer. `seen` is up to which index the last owner word showed
 /// the completion queue `number` as published.
 pub(crate) fn after_look(
     number: u32,
-    queues: &[SendQueue],
+    queues: &SendQueues,
     max: u32,
     ends: Ends,
     seen: u64,
@@ -93,7 +86,7 @@ pub(crate) fn after_look(
 /// After an operation of a lookup, by its answer.
 pub(crate) fn after_lookup(
     number: u32,
-    queues: &[SendQueue],
+    queues: &SendQueues,
     max: u32,
     ends: Ends,
     seen: u64,
@@ -125,7 +118,7 @@ pub(crate) fn after_lookup(
 /// One more completion was taken, which has this end.
 fn with_end(
     number: u32,
-    queues: &[SendQueue],
+    queues: &SendQueues,
     max: u32,
     mut ends: Ends,
     seen: u64,
@@ -153,14 +146,7 @@ fn with_end(
 }
 
 /// No completion is left, by this owner word.
-fn with_none(
-    number: u32,
-    queues: &[SendQueue],
-    max: u32,
-    ends: Ends,
-    seen: u64,
-    word: u64,
-) -> Turned
+fn with_none(number: u32, queues: &SendQueues, max: u32, ends: Ends, seen: u64, word: u64) -> Turned
     requires { length ends.items < 16 }
     ensures { result ≡ words.with_none number queues.now max ends seen word }
 {
@@ -184,7 +170,7 @@ fn with_none(
 
 /// After the store of an end in the send queue of this queue pair, before which these were left.
 pub(crate) fn after_retire(
-    queues: &[SendQueue],
+    queues: &SendQueues,
     taken: u32,
     empty: Option<u64>,
     left: Ends,

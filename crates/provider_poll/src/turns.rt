@@ -10,7 +10,7 @@ ghost use Rattle.provider_poll.specs.Stores.{may_store};
 ghost use Rattle.provider_poll.specs.Turns.{Looks, LooksUp, Retires, Acknowledges, IsPollingHost, CanServeEach, acked_index, working};
 ghost use Rattle.cq_pair.specs.HostView.{PollOne};
 
-use crate::send_queue::SendQueue;
+use crate::send_queues::SendQueues;
 use crate::state::{End, Ends};
 use crate::turned::{Turned, after_ack, after_look, after_lookup, after_retire};
 use bus_core::{BusPort, Step};
@@ -21,7 +21,7 @@ use cqe_format::Cqe;
 pub(crate) fn look<P: BusPort>(
     number: u32,
     host: &mut CqHost,
-    queues: &[SendQueue],
+    queues: &SendQueues,
     max: u32,
     ends: Ends,
     port: &mut P,
@@ -53,7 +53,7 @@ fn begin_look(host: &mut CqHost)
 pub(crate) fn look_up<P: BusPort>(
     number: u32,
     seen: u64,
-    queues: &mut [SendQueue],
+    queues: &mut SendQueues,
     max: u32,
     ends: Ends,
     completion: Cqe,
@@ -65,13 +65,13 @@ pub(crate) fn look_up<P: BusPort>(
     requires port { CanServeEach queues.old (P.port port.old) }
     ensures { (e : BusEntry) × Appends (P.port port.old) (P.port port.new) e × LooksUp number seen queues.old queues.new max ends completion queue e result }
 {
-    let step = queues[queue].look_up(completion.counter, port);
+    let step = queues.look_up(queue, completion.counter, port);
     after_lookup(number, queues, max, ends, seen, completion, queue, step)
 }
 
 /// The first of the ends is stored, in its queue; the others are left.
 pub(crate) fn retire<P: BusPort>(
-    queues: &mut [SendQueue],
+    queues: &mut SendQueues,
     taken: u32,
     empty: Option<u64>,
     first: End,
@@ -82,8 +82,7 @@ pub(crate) fn retire<P: BusPort>(
     requires port { CanServeEach queues.old (P.port port.old) }
     ensures { (e : BusEntry) × Appends (P.port port.old) (P.port port.new) e × Retires queues.old queues.new taken empty first left.items e result }
 {
-    let pair = queues[first.queue].number();
-    queues[first.queue].retire(first.end, port);
+    let pair = queues.retire(first, port);
     after_retire(queues, taken, empty, left, pair, first.end)
 }
 

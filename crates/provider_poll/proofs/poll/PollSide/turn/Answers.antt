@@ -1,15 +1,11 @@
-use Rattle.std.proofs.Common.{◌≡◌, ℕ, ◌<◌, sym, ap, ◌∙◌, subst, List, ◌∷◌, length}
-use Rattle.std.specs.Vec.{with_items}
-use Rattle.std.proofs.lemmas.List.{with_items_is}
+use Rattle.std.proofs.Common.{◌≡◌, ℕ, sym, ap, ◌∙◌, subst, List, ◌∷◌}
 use Rattle.bus_core.specs.declared.turn.Note.{Note}
 use Rattle.cq_pair.specs.declared.place.CqPlace.{CqPlace}
 use Rattle.provider_poll.specs.declared.state.PollState.{PollState}
-use Rattle.provider_poll.specs.declared.state.PollState.TheVariants.{Polling, LookingUp, Retiring}
+use Rattle.provider_poll.specs.declared.state.PollState.TheVariants.{LookingUp, Retiring}
 use Rattle.provider_poll.specs.declared.state.End.{End}
 use Rattle.provider_poll.specs.declared.turned.Turned.{Turned}
-use Rattle.provider_poll.specs.SendQueue.{SendView}
-use Rattle.provider_poll.specs.Turned.{after_look}
-use Rattle.provider_poll.specs.Turns.{LooksUp, Retires}
+use Rattle.provider_poll.specs.Turns.{LooksUp}
 use Rattle.provider_poll.specs.Poll.{PollView, PollTurn}
 use Rattle.provider_poll.specs.PollInside.{IsAtWork}
 use Rattle.provider_poll.proofs.Hosts.{polled}
@@ -21,42 +17,40 @@ use Rattle.provider_poll.proofs.poll.PollSide.turn.Goals as goal
 
 pub invariant_of-self : goal.invariant_of-self
 invariant_of-self g c =
-    let work = subst (λ (s : PollState). IsAtWork c.self.inside.host c.self.inside.queues.items s) (sym c.in-Polling.ensures.value) c.self.invariant.work in
+    let work = subst (λ (s : PollState). IsAtWork c.self.inside.host c.self.inside.queues s) (sym c.in-Polling.ensures.value) c.self.invariant.work in
     let l = c.look-turned.ensures.2 in
     let fits = polled c.self.inside.host c.look-turned.new.host c.look-turned.ensures.0 l.step l.host_turn c.self.invariant.entry in
     record {
       number = c.self.invariant.number ∙ sym (ap (λ (p : CqPlace). p.number) l.host_turn.place);
       entry = fits.entry;
-      work = subst (λ (t : Turned). IsAtWork c.look-turned.new.host c.self.inside.queues.items t.state) (sym (l.turned_is ∙ ap (λ (qs : List SendView). after_look c.self.inside.number qs c.in-Polling.max c.in-Polling.ends c.look-turned.new.host.seen l.step) c.as_slice-queues.ensures.value))
-          (looks c.look-turned.new.host c.self.inside.queues.items c.self.inside.number c.in-Polling.max c.look-turned.new.host.seen c.in-Polling.ends work.few work.more _ l.step work.next fits l.host_turn.task);
+      work = subst (λ (t : Turned). IsAtWork c.look-turned.new.host c.self.inside.queues t.state) (sym l.turned_is)
+          (looks c.look-turned.new.host c.self.inside.queues c.self.inside.number c.in-Polling.max c.look-turned.new.host.seen c.in-Polling.ends work.few work.more _ l.step work.next fits l.host_turn.task);
     }
 
 pub invariant_of-self-in-LookingUp : goal.invariant_of-self-in-LookingUp
 invariant_of-self-in-LookingUp g c =
     let h = c.self.inside.host in
-    let old = c.self.inside.queues.items in
+    let old = c.self.inside.queues in
     let new = c.look_up-turned.new.queues in
     let turned = c.look_up-turned.result in
     let work = subst (λ (s : PollState). IsAtWork h old s) (sym c.in-LookingUp.ensures.value) c.self.invariant.work in
-    let written : (with_items c.self.inside.queues new).items ≡ new = with_items_is c.self.inside.queues new (c.look_up-turned.auto.queues ∙ c.as_mut_slice-queues.ensures.len) in
-    let kept = looked_up h c.as_mut_slice-queues.result.now new c.look_up-turned.ensures.0 turned c.self.inside.number c.seen-seen.result.a c.in-LookingUp.max c.in-LookingUp.ends c.in-LookingUp.completion c.in-LookingUp.queue old c.look_up-turned.ensures.2 work in
-    record { number = c.self.invariant.number; entry = c.self.invariant.entry; work = subst (λ (queues : List SendView). IsAtWork h queues turned.state) (sym written) kept }
+    let kept = looked_up h old new c.look_up-turned.ensures.0 turned c.self.inside.number c.seen-seen.result.a c.in-LookingUp.max c.in-LookingUp.ends c.in-LookingUp.completion c.in-LookingUp.queue old c.look_up-turned.ensures.2 work in
+    record { number = c.self.invariant.number; entry = c.self.invariant.entry; work = kept }
 
 pub invariant_of-self-in-Retiring : goal.invariant_of-self-in-Retiring
 invariant_of-self-in-Retiring g c =
     let h = c.self.inside.host in
     let new = c.retire-turned.new.queues in
     let turned = c.retire-turned.result in
-    let work = subst (λ (s : PollState). IsAtWork h c.self.inside.queues.items s) (sym c.in-Retiring.ensures.value) c.self.invariant.work in
-    let written : (with_items c.self.inside.queues new).items ≡ new = with_items_is c.self.inside.queues new (c.retire-turned.auto.queues ∙ c.as_mut_slice-queues-in-Retiring.ensures.len) in
-    let kept = retired h c.as_mut_slice-queues-in-Retiring.result.now new c.retire-turned.ensures.0 turned c.in-Retiring.taken c.in-Retiring.empty c.remove-first.result c.remove-first.new.self.items c.retire-turned.ensures.2 work.task in
-    record { number = c.self.invariant.number; entry = c.self.invariant.entry; work = subst (λ (queues : List SendView). IsAtWork h queues turned.state) (sym written) kept }
+    let work = subst (λ (s : PollState). IsAtWork h c.self.inside.queues s) (sym c.in-Retiring.ensures.value) c.self.invariant.work in
+    let kept = retired h c.self.inside.queues new c.retire-turned.ensures.0 turned c.in-Retiring.taken c.in-Retiring.empty c.remove-first.result c.remove-first.new.self.items c.retire-turned.ensures.2 work.task in
+    record { number = c.self.invariant.number; entry = c.self.invariant.entry; work = kept }
 
 pub returns-in-LookingUp : goal.returns-in-LookingUp
 returns-in-LookingUp g c =
     let h = c.self.inside.host in
     let seen : c.seen-seen.result.a ≡ h.seen = ap (λ (n : Note). n.a) c.seen-seen.ensures in
-    let old = c.self.inside.queues.items in
+    let old = c.self.inside.queues in
     let new = c.look_up-turned.new.queues in
     let e = c.look_up-turned.ensures.0 in
     let turned = c.look_up-turned.result in
@@ -65,19 +59,15 @@ returns-in-LookingUp g c =
     let completion = c.in-LookingUp.completion in
     let queue = c.in-LookingUp.queue in
     let noted = c.self.inside.noted in
-    let written : (with_items c.self.inside.queues new).items ≡ new = with_items_is c.self.inside.queues new (c.look_up-turned.auto.queues ∙ c.as_mut_slice-queues.ensures.len) in
     let u = subst (λ (number : ℕ). LooksUp number h.seen old new max ends completion queue e turned) c.self.invariant.number
-    (subst (λ (seen : ℕ). LooksUp c.self.inside.number seen old new max ends completion queue e turned) seen
-    (subst (λ (old : List SendView). LooksUp c.self.inside.number c.seen-seen.result.a old new max ends completion queue e turned) c.as_mut_slice-queues.ensures.value c.look_up-turned.ensures.2)) in
+    (subst (λ (seen : ℕ). LooksUp c.self.inside.number seen old new max ends completion queue e turned) seen c.look_up-turned.ensures.2) in
     let before : side noted e turned h old (LookingUp max ends completion queue) noted ≡ c.args.self.now = ap (λ (s : PollState). side noted e turned h old s noted) c.in-LookingUp.ensures.value ∙ c.self.view_is in
-    let t = subst (λ (queues : List SendView). PollTurn (side noted e turned h old (LookingUp max ends completion queue) noted) (side noted e turned h queues turned.state turned.noted) e turned.answer) (sym written)
-    (sides.asks noted e turned h old new max ends completion queue u) in
-    (e, c.look_up-turned.ensures.1, subst (λ (v : PollView). PollTurn v (side noted e turned h (with_items c.self.inside.queues new).items turned.state turned.noted) e turned.answer) before t)
+    (e, c.look_up-turned.ensures.1, subst (λ (v : PollView). PollTurn v (side noted e turned h new turned.state turned.noted) e turned.answer) before (sides.asks noted e turned h old new max ends completion queue u))
 
 pub returns-in-Retiring : goal.returns-in-Retiring
 returns-in-Retiring g c =
     let h = c.self.inside.host in
-    let old = c.self.inside.queues.items in
+    let old = c.self.inside.queues in
     let new = c.retire-turned.new.queues in
     let e = c.retire-turned.ensures.0 in
     let turned = c.retire-turned.result in
@@ -89,9 +79,5 @@ returns-in-Retiring g c =
     let noted = c.self.inside.noted in
     let work = subst (λ (s : PollState). IsAtWork h old s) (sym c.in-Retiring.ensures.value) c.self.invariant.work in
     let all : first ∷ others ≡ left.items = removed left.items others first work.some c.remove-first.ensures.value c.remove-first.ensures.items in
-    let written : (with_items c.self.inside.queues new).items ≡ new = with_items_is c.self.inside.queues new (c.retire-turned.auto.queues ∙ c.as_mut_slice-queues-in-Retiring.ensures.len) in
-    let u = subst (λ (old : List SendView). Retires old new taken empty first others e turned) c.as_mut_slice-queues-in-Retiring.ensures.value c.retire-turned.ensures.2 in
     let before : side noted e turned h old (Retiring taken empty (record { items = first ∷ others })) noted ≡ c.args.self.now = ap (λ (ends : List End). side noted e turned h old (Retiring taken empty (record { items = ends })) noted) all ∙ ap (λ (s : PollState). side noted e turned h old s noted) c.in-Retiring.ensures.value ∙ c.self.view_is in
-    let t = subst (λ (queues : List SendView). PollTurn (side noted e turned h old (Retiring taken empty (record { items = first ∷ others })) noted) (side noted e turned h queues turned.state turned.noted) e turned.answer) (sym written)
-    (sides.retires noted e turned h old new taken empty first others u) in
-    (e, c.retire-turned.ensures.1, subst (λ (v : PollView). PollTurn v (side noted e turned h (with_items c.self.inside.queues new).items turned.state turned.noted) e turned.answer) before t)
+    (e, c.retire-turned.ensures.1, subst (λ (v : PollView). PollTurn v (side noted e turned h new turned.state turned.noted) e turned.answer) before (sides.retires noted e turned h old new taken empty first others c.retire-turned.ensures.2))

@@ -1,7 +1,7 @@
-use Rattle.std.proofs.Common.{◌≡◌, ◌∙◌, ap, sym, List, set}
+use Rattle.std.proofs.Common.{◌∙◌, ap, sym, set}
 use Rattle.provider_poll.specs.SendQueue.{SendView, forgotten_queue}
 use Rattle.provider_poll.proofs.Changed.{next_changed}
-use Rattle.provider_poll.proofs.poll.forget_all.Goals as goal
+use Rattle.provider_poll.proofs.send_queues.forget_each.Goals as goal
 
 pub loop-queue-preserved : goal.loop-queue-preserved
 loop-queue-preserved c =

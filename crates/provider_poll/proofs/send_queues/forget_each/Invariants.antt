@@ -1,6 +1,6 @@
 use Rattle.std.proofs.Common.{◌≡◌, ◌++◌, map, take, drop}
 use Rattle.provider_poll.specs.SendQueue.{forgotten_queue}
-use Rattle.provider_poll.proofs.poll.forget_all.Given as goal
+use Rattle.provider_poll.proofs.send_queues.forget_each.Given as goal
 
 -- those so far forgot, and the others are as before
 abbrev pub invariant-loop-queue : goal.invariant-loop-queue
