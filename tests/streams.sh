@@ -19,6 +19,7 @@ into_closed_pipe() {
 layout_into_full_device() { "$mlx5" layout raddr >/dev/full; }
 from_folder() { "$mlx5" run <"$PWD"; }
 from_elsewhere() { (cd / && "$mlx5" run </dev/null); }
+of_32_large_queues() { { echo 'eq e 6'; printf 'cq c%d 12 12 e 0\n' {0..31}; } | "$mlx5" run; }
 of_long_text() { head -c 4194305 /dev/zero | "$mlx5" run; }
 of_text() { printf '%s' "$1" | "$mlx5" run; }
 
@@ -38,6 +39,7 @@ judge 'a text outside the grammar' "$(said of_text x)" '3 mlx5: line 1: form'
 judge 'a line that is not built' "$(said of_text $'arena 8\n')" '3 mlx5: line 1: not built'
 judge 'a text that ends too early' "$(said of_text $'thread a\n')" '3 mlx5: line 1: missing'
 judge 'a limit' "$(said of_text $'# eleven\neq e 11\n')" '4 mlx5: limit log 11'
+judge 'too many words' "$(said of_32_large_queues)" '4 mlx5: limit words 2115202'
 judge 'a text that is too long' "$(said of_long_text)" '4 mlx5: limit text 4194305'
 judge 'a folder as input' "$(said from_folder)" '5 mlx5: read fault'
 judge 'a full device' "$(said into_full_device)" '6 mlx5: write fault'
