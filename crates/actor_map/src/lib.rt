@@ -14,8 +14,6 @@ mod note;
 mod placed;
 mod sizes;
 mod start;
-#[cfg(test)]
-mod tests;
 mod weight;
 
 pub use actor::Actor;

@@ -6,18 +6,6 @@ use std::io::{Read, Write};
 use std::test::Fail;
 
 #[test]
-fn a_text_in_pieces(rt: HostRuntime) -> Result<(), Fail> {
-    for step in [1, 2, 3, 64] {
-        let mut sink = TextSink::new(rt.alloc());
-        sink.step = step;
-        assert_eq!(rt; write_all(&mut sink, b"abcde"), Ok(()));
-        assert!(rt; sink.written.as_slice() == b"abcde".as_slice());
-        assert_eq!(rt; sink.faults, 0);
-    }
-    Ok(())
-}
-
-#[test]
 fn a_write_that_fails(rt: HostRuntime) -> Result<(), Fail> {
     let failing = [2];
     let mut sink = TextSink::new(rt.alloc());

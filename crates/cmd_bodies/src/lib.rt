@@ -22,6 +22,3 @@ pub use contexts::{CqContext, EqBlock, MkeyContext, QpBlock, SrqBlock};
 pub use decoder::{BodyFault, decode, output_length};
 pub use encoder::encode;
 pub use reply::{Reply, decode_reply, encode_reply};
-
-#[cfg(test)]
-mod tests;

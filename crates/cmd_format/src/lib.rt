@@ -16,6 +16,3 @@ pub use block::{Block, encode_blocks, read_block, sign_block};
 pub use delivery::Delivery;
 pub use entry::{CmdEntry, decode_entry, encode_entry, sign_entry};
 pub use signature::exclusive_or;
-
-#[cfg(test)]
-mod tests;

@@ -12,8 +12,6 @@ pub mod laws;
 mod place;
 mod poster;
 mod retirer;
-#[cfg(test)]
-mod tests;
 
 pub use device::{WqDevice, WqSeen};
 pub use place::WqPlace;

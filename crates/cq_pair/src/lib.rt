@@ -11,8 +11,6 @@ mod device;
 mod host;
 pub mod laws;
 mod place;
-#[cfg(test)]
-mod tests;
 
 pub use device::{CqDevice, CqSeen};
 pub use host::{CqDone, CqHost};

@@ -19,6 +19,3 @@ pub use completion::{Cqe, decode_cqe, encode_cqe};
 pub use event::{decode_eqe, encode_eqe};
 pub use search::NotAnEntry;
 pub use syndrome::Syndrome;
-
-#[cfg(test)]
-mod tests;

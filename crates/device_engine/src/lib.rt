@@ -11,8 +11,6 @@ mod pair;
 mod publish;
 mod scan;
 mod start;
-#[cfg(test)]
-mod tests;
 mod told;
 
 pub use device::Device;

@@ -1,11 +1,10 @@
-//! Whole texts over a source and a sink in memory.
+//! Texts over a source and a sink in memory, of which calls fail.
 
 use crate::dump::dump;
 use crate::status::Status;
 use byte_streams::{TextSink, TextSource};
-use std::alloc::{AllocError, Global};
+use std::alloc::Global;
 use std::process::Abort;
-use std::test::Fail;
 
 /// ENABLE_HCA, once as it is and once with a wrong signature, and a line that is no dump and has no line
 /// end.
@@ -35,51 +34,6 @@ fn expect<R: Abort>(
 ) {
     assert_eq!(rt; dump(alloc, source, out), status);
     assert!(rt; out.written.as_slice() == output.as_bytes());
-}
-
-#[test]
-fn lines_in_pieces(rt: HostRuntime) {
-    for step in [1, 7, 4096] {
-        let mut source = TextSource::new(LINES);
-        source.step = step;
-        let mut out = TextSink::new(rt.alloc());
-        out.step = step;
-        expect(
-            &rt,
-            rt.alloc(),
-            &mut source,
-            &mut out,
-            Status::Done,
-            ANSWERS,
-        );
-        assert_eq!(rt; source.rest.len(), 0);
-    }
-}
-
-#[test]
-fn the_empty_text_has_no_line(rt: HostRuntime) {
-    let mut source = TextSource::new(b"");
-    let mut out = TextSink::new(rt.alloc());
-    expect(&rt, rt.alloc(), &mut source, &mut out, Status::Done, "");
-    assert_eq!(rt; out.calls, 0);
-}
-
-/// A line of any length takes no more memory than the longest dump.
-#[test]
-fn a_long_line(rt: HostRuntime) -> Result<(), AllocError> {
-    let mut text = vec![in rt.alloc(); b'0'; 9000]?;
-    text.extend_from_slice(b"\nx\n")?;
-    let mut source = TextSource::new(text.as_slice());
-    let mut out = TextSink::new(rt.alloc());
-    expect(
-        &rt,
-        rt.alloc(),
-        &mut source,
-        &mut out,
-        Status::Done,
-        "malformed\nmalformed\n",
-    );
-    Ok(())
 }
 
 /// The lines of the pieces that were read are answered, and no part of another line.
@@ -116,20 +70,5 @@ fn a_write_that_fails(rt: HostRuntime) {
             Status::WriteFault,
             ANSWERS.get(..call).unwrap_or("none"),
         );
-    }
-}
-
-#[test]
-fn numbers_of_statuses(rt: HostRuntime) {
-    for (status, number) in [
-        (Status::Done, 0),
-        (Status::Usage, 2),
-        (Status::Limit, 4),
-        (Status::ReadFault, 5),
-        (Status::WriteFault, 6),
-        (Status::NoMemory, 8),
-    ] {
-        assert_eq!(rt; status.number(), number);
-        assert_eq!(rt; status.line().is_empty(), number == 0);
     }
 }

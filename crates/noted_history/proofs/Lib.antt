@@ -4,4 +4,3 @@ mod ByKind
 mod Moves
 mod Threads
 mod Standing
-mod Tested

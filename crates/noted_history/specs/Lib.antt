@@ -3,4 +3,3 @@ pub mod Behind
 pub mod Marks
 pub mod Told
 pub mod Telling
-pub mod Tested

@@ -12,6 +12,3 @@ mod teller;
 pub use entries::history_of;
 pub use log::{Made, Turn};
 pub use marks::marks_of;
-
-#[cfg(test)]
-mod tests;

@@ -6,8 +6,6 @@ mod completion_queue;
 mod ended;
 pub mod laws;
 mod sizes;
-#[cfg(test)]
-mod tests;
 mod work_queue;
 
 pub use completion_queue::completion_place;

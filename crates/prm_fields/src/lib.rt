@@ -18,6 +18,3 @@ mod table;
 pub use bits::{Field, put_word, word};
 pub use layout::{FieldName, FieldRow, LayoutName};
 pub use table::{layout_length, layout_rows, reserved_clear, row};
-
-#[cfg(test)]
-mod tests;

@@ -17,8 +17,6 @@ mod send_queues;
 mod senders;
 mod state;
 mod stores;
-#[cfg(test)]
-mod tests;
 mod turned;
 mod turns;
 

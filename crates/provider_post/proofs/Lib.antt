@@ -6,4 +6,3 @@ pub mod Rings
 pub mod Turns
 pub mod Items
 pub mod Rule
-pub mod Tested

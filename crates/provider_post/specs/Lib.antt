@@ -5,4 +5,3 @@ pub mod Rule
 pub mod Side
 pub mod Queued
 pub mod Inside
-pub mod Tested

@@ -13,8 +13,6 @@ mod post;
 mod queue_side;
 mod recv;
 mod start;
-#[cfg(test)]
-mod tests;
 mod told;
 
 pub use answer::{PostAnswer, Room};

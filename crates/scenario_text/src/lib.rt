@@ -18,8 +18,6 @@ mod scenario;
 mod segment;
 mod slot;
 mod sofar;
-#[cfg(test)]
-mod tests;
 mod uses;
 mod values;
 

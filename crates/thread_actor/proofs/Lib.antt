@@ -15,4 +15,3 @@ pub mod ReadyPolls
 pub mod Turning
 pub mod Adding
 pub mod Starting
-pub mod Tested

@@ -10,4 +10,3 @@ pub mod Polls
 pub mod Stands
 pub mod NewSides
 pub mod Inside
-pub mod Tested

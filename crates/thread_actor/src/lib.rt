@@ -9,8 +9,6 @@ mod polls;
 mod posts;
 mod progress;
 mod sides;
-#[cfg(test)]
-mod tests;
 mod thread;
 
 pub use actor::ThreadActor;

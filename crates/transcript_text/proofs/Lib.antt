@@ -1,5 +1,4 @@
 pub mod HexLemmas
 pub mod LineLemmas
 pub mod ObjectLemmas
-pub mod PairLemmas
 pub mod ZipLemmas

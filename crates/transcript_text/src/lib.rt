@@ -23,10 +23,3 @@ pub use history::{print_history, put_history};
 pub use run::print_run;
 pub use trace::print_trace;
 pub use writer::TextWriter;
-
-#[cfg(test)]
-mod request_tests;
-#[cfg(test)]
-mod tests;
-#[cfg(test)]
-mod trace_tests;

@@ -34,6 +34,3 @@ pub use name::{Name, NameFault, is_name};
 pub use request::{Body, Item, Op, Receive, Request, Sge};
 pub use sequence::Sequence;
 pub use state::{Act, QpState, QueuePair, Unpolled};
-
-#[cfg(test)]
-mod tests;

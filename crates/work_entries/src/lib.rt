@@ -33,6 +33,3 @@ pub use send::{decode_send, encode_send};
 pub use sent::{Sent, SentBody};
 pub use sge_array::SgeArray;
 pub use units::SendWords;
-
-#[cfg(test)]
-mod tests;

@@ -7,8 +7,6 @@ mod copies;
 mod outcome;
 mod run;
 mod start;
-#[cfg(test)]
-mod tests;
 mod turns;
 mod world;
 

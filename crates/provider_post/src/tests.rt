@@ -1,5 +1,0 @@
-//! Posts on a plain bus.
-
-mod receives;
-mod scenario;
-mod sends;
