@@ -10,7 +10,7 @@ pub record Sets (old new : Plain) (from : ℕ) (words : List ℕ) (behind : ℕ)
   pub long : length new.start ≡ length old.start
   pub rest : new ≡ record old { start = new.start }
 
--- a bus in which so many words from this one on can be set
+-- a bus in which `count` words from this one on can be set
 pub record CanSet (bus : Plain) (from : ℕ) (count : ℕ) : Type 0 where
   pub empty : bus.trace ≡ []
   pub inside : from + count ≤ length bus.start

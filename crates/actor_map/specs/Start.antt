@@ -12,7 +12,7 @@ use Rattle.actor_map.specs.Sizes.{send_words, receive_words}
 abbrev pub entry : ℕ → List ℕ
 entry owner = 0 ∷ 0 ∷ 0 ∷ 0 ∷ 0 ∷ 0 ∷ 0 ∷ owner ∷ []
 
--- so many of them
+-- `count` of them
 abbrev pub entries : ℕ → ℕ → List ℕ
 entries count owner = flat_map entry (replicate count owner)
 

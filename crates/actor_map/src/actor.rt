@@ -30,7 +30,7 @@ pub trait Actor {
     fn ended(&self) -> bool
         ensures { result ≡ has_ended self.now };
 
-    /// How many calls its program has: 0 for who has none.
+    /// How many calls its program has: 0 for an actor that has none.
     fn calls(&self) -> u32
         ensures { result ≡ program self.now };
 

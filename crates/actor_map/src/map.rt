@@ -18,7 +18,7 @@ const MAX_WORDS: u64 = 1 << 20;
 /// Why there is no map.
 #[derive(Clone, Copy, Debug, PartialEq, Eq, Error)]
 pub enum MapFault {
-    /// The objects need so many words, which are more than 2^20.
+    /// The objects need this number of words, which is more than 2^20.
     #[error("the objects need {words} words")]
     TooManyWords { words: u64 },
     #[error("no memory")]

@@ -19,7 +19,7 @@ pub(crate) struct Placed {
 }
 
 impl Placed {
-    /// Places an object of so many words.
+    /// Places an object of `size` words.
     fn place(&mut self, size: u64) -> Result<(), AllocFailed<u32>>
         requires room { self.old.next + size ≤ 2 ^ 20 }
         ensures { OnOk result (Places self.old self.new (size ∷ [])) }

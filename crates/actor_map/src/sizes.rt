@@ -13,7 +13,7 @@ pub const FIRST_OBJECT: u64 = 17_408;
 /// The words of one queue entry of 64 bytes.
 const ENTRY: u64 = 8;
 
-/// The number of words that the map of these objects needs. It takes no memory.
+/// The number of words that the map of these objects needs. It does not allocate.
 pub fn words(declared: &Declared) -> u64
     ensures { result ≡ sizes.words_of declared.now }
 {
@@ -103,7 +103,7 @@ pub(crate) fn receive_words(line: &QpLine) -> u64
     (stride(line.segments) + 1) * receives + 1
 }
 
-/// The words of a receive entry of so many scatter/gather entries: two each, rounded up to a power of two.
+/// The words of a receive entry of `segments` scatter/gather entries: two each, rounded up to a power of two.
 pub(crate) fn stride(segments: u32) -> u64
     ensures { result ≡ sizes.stride segments }
 {

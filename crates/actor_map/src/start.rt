@@ -117,7 +117,7 @@ fn set_qp(bus: &mut PlainBus, next: u32, line: &QpLine) -> u32
     set_words(bus, next, &[record, record, 0])
 }
 
-/// Sets so many entries, the last word of each to this.
+/// Sets `count` entries, the last word of each to `owner`.
 fn set_entries(bus: &mut PlainBus, from: u32, count: u64, owner: u64) -> u32
     requires room { CanSet bus.old from (length (start.entries count owner)) }
     ensures { Sets bus.old bus.new from (start.entries count owner) result }

@@ -35,7 +35,7 @@ const BYTE: u64 = 4;
 /// How many bytes an atomic moves.
 const ATOMIC: u64 = 8;
 
-/// The weight of these objects and programs; a weight above 2^64 - 1 counts as that. It takes no memory.
+/// The weight of these objects and programs; a weight above 2^64 - 1 counts as that. It does not allocate.
 pub fn notes(declared: &Declared, programs: &[Sequence<Call>]) -> u64
     ensures { result ≡ weights.capped (weights.weight declared.now programs.now) }
 {

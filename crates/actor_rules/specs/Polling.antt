@@ -40,7 +40,7 @@ IsOnPolled d cq (OnCompletions c mark) = c ≡ cq
 IsOnPolled d cq (OnSends qp mark) = position (λ n. n == qp) (completing d cq) ≡ Some (place_in d cq qp)
 IsOnPolled d cq _ = ⊥
 
--- a poll of at most so many, before its first operation
+-- a poll of at most `most` completions, before its first operation
 abbrev pub begun : ℕ → PollState → PollState
 begun most states.Idle = states.Polling most (record { items = [] })
 begun most state = state
@@ -71,7 +71,7 @@ abbrev pub calls_after_poll : List Call → List Call → Step Completion PollAn
 calls_after_poll calls rest (Done answer) = rest
 calls_after_poll calls rest _ = calls
 
--- A drain takes so many, one by one. Where there was none it looks again.
+-- A drain takes `count` completions, one by one. Where there was none it looks again.
 abbrev pub drain_left : ℕ → ℕ → List Call → List Call
 drain_left cq count rest = if nat_le count 1 then rest else Drain cq (count - 1) ∷ rest
 

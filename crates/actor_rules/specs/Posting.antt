@@ -23,7 +23,7 @@ on_queue (Send qp) mark = OnSends qp mark
 on_queue (Recv qp) mark = OnReceives qp mark
 on_queue (Shared srq) mark = OnReceives srq mark
 
--- how far the call to post so many items has come, which may be about to begin
+-- how far the call to post `count` items has come, which may be about to begin
 abbrev pub post_now : Thread → Queue → ℕ → PostRule
 post_now t queue count = record { poster = t.posters queue; call = unwrap_or t.posting (fresh_call count) }
 

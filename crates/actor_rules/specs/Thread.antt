@@ -68,7 +68,7 @@ fresh_poll d cq = record {
   state = Idle;
 }
 
--- the threads are numbered from 1; who is none has ended
+-- the threads are numbered from 1; an actor that is no thread has ended
 abbrev pub is_thread : List (List Call) → ℕ → Bool
 is_thread programs x = nat_lt 0 x && nat_le x (length programs)
 

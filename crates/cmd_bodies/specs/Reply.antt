@@ -25,7 +25,7 @@ answer_of _ = Nothing
 abbrev pub no_pages : List ℕ
 no_pages = replicate 88 0
 
--- how many of so many addresses a byte string holds, at most 88
+-- how many of `count` addresses a byte string holds, at most 88
 abbrev pub listed_in : ℕ → List ℕ → ℕ
 listed_in count bytes = min count (min (length bytes / 8) 88)
 

@@ -20,10 +20,10 @@ pub enum BodyFault {
     /// No command has this opcode with this modifier.
     #[error("no such opcode with this modifier")]
     BadOpcode,
-    /// The input has not as many bytes as the command's.
+    /// The input does not have the length of the command's.
     #[error("wrong input length")]
     InputLength,
-    /// Not as many bytes of output are wanted as the command has.
+    /// The output that is wanted does not have the length of the command's.
     #[error("wrong output length")]
     OutputLength,
     /// A bit that the command does not use is 1, or there are more than 88 pages.

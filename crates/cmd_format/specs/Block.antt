@@ -44,7 +44,7 @@ block_rules token number bytes =
 abbrev pub padded : List ℕ → List ℕ
 padded part = part ++ replicate (512 - length part) 0
 
--- how many blocks so many bytes take
+-- how many blocks this number of bytes takes
 abbrev pub blocks_of : ℕ → ℕ
 blocks_of bytes = (bytes + 511) / 512
 

@@ -21,7 +21,7 @@ id_at place index = place.ids + index % place.blocks
 abbrev pub head_at : WqPlace → ℕ → ℕ
 head_at place index = place.heads + index % place.blocks
 
--- how many blocks so many units of 16 bytes take; none is read as one, and more than 16 as 16
+-- how many blocks `units` units of 16 bytes take; no unit is read as one block, and more than 16 as four
 abbrev pub unit_blocks : ℕ → ℕ
 unit_blocks units = if nat_le units 4 then 1 else if nat_le units 8 then 2 else if nat_le units 12 then 3 else 4
 

@@ -21,7 +21,7 @@ abbrev pub MayCountFor : WqPlace → Option Asked → BusEntry → Type 0
 MayCountFor place None e = ⊥
 MayCountFor place (Some a) e = IsLoad (head_at place a.counter) e
 
--- A tail is an end that was found and not yet stored: for a send one more than a loaded head word, for a receive one more than the last tail. Of those that were found it is the first; the retirer knows the last, and whoever retires gives the first.
+-- A tail is an end that was found and not yet stored: for a send one more than a loaded head word, for a receive one more than the last tail. Of those that were found it is the first; the retirer knows the last, and the caller gives the first.
 pub record MayRetire (place : WqPlace) (r : Retirer) (end : ℕ) (e : BusEntry) : Type 0 where
   pub later : r.tail < end
   pub found : end ≤ r.found

@@ -19,7 +19,7 @@ pub enum WqSeen {
     Same,
     /// It is another one.
     Changed,
-    /// So many blocks, from the next one to be read on, are shown by the record.
+    /// The record shows `ready` blocks, from the next one to be read on.
     Count { ready: u32 },
     /// The next entry. Words past its blocks are 0.
     Read(SendWords),

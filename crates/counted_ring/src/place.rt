@@ -14,14 +14,24 @@ ghost use Rattle.counted_ring.specs.Place as words;
 /// its queue has no register and no head words.
 #[derive(Clone, Copy, Debug, PartialEq, Eq)]
 pub struct WqPlace {
+    /// The address of the ring's first word.
     pub ring: u32,
+    /// How many blocks the ring has: a number that divides 2^16, at most 2^15.
     pub blocks: u32,
+    /// How many words a block has.
     pub stride: u32,
+    /// The address of the id word of block 0; the others follow, one a block.
     pub ids: u32,
+    /// The address of the head word of block 0; the others follow, one a block. A receive queue has none,
+    /// and nothing is read here.
     pub heads: u32,
+    /// The address of the tail word, a whole count of requests that are retired.
     pub tail: u32,
+    /// The address of the queue's own word of the doorbell record, the low 16 bits of a block index.
     pub dbr: u32,
+    /// The address of the register; a receive queue has none.
     pub reg: Option<u32>,
+    /// How many requests may be posted and not retired.
     pub max_post: u32,
 }
 
@@ -80,7 +90,7 @@ impl WqPlace {
         }
     }
 
-    /// How many blocks of an entry of this first word there are, where so many are ready.
+    /// How many blocks of an entry of this first word there are, where `ready` blocks are.
     pub(crate) fn reach(&self, ready: u32, first: u64) -> u32
         requires { 0 < ready }
         ensures reach { result ≡ reach self.now ready first }
@@ -93,7 +103,7 @@ impl WqPlace {
     }
 }
 
-/// How many blocks so many units of 16 bytes take.
+/// How many blocks `units` units of 16 bytes take.
 fn unit_blocks(units: u64) -> u32
     ensures blocks { result ≡ words.unit_blocks units }
     ensures some { 0 < result }

@@ -89,7 +89,7 @@ is_publication _ = false
 abbrev pub publications : List QueueEvent → ℕ
 publications events = length (filter is_publication events)
 
--- In every legal history of a queue from this index on, publications have consecutive indices, and what is taken was published before, at its index. So no wrap loses a completion or doubles one.
+-- In every legal history of a queue from this index on, publications have consecutive indices, and what is taken was published before, at its index. So no wrap makes the host take another completion than the one that was published.
 pub record KeepsCompletions (size start : ℕ) : Type 0 where
   pub in_order : (before after : List QueueEvent) (index : ℕ) (completion : Cqe) → IsLegal size (empty_queue start) (before ++ Published index completion ∷ after) → index ≡ start + publications before
   pub taken : (before after : List QueueEvent) (index : ℕ) (completion : Cqe) → IsLegal size (empty_queue start) (before ++ Took index completion ∷ after) → Contains before (Published index completion)

@@ -26,7 +26,7 @@ pub enum CqDone {
     Acked { ci: u64 },
 }
 
-/// What stands in the place of a completion where eight words spell none. No adapter that keeps its
+/// What is taken instead of a completion where eight words spell none. No adapter that keeps its
 /// rule publishes such words.
 const NO_COMPLETION: Cqe = Cqe {
     opcode: 0,

@@ -16,11 +16,18 @@ use owner_ring::RingPlace;
 pub struct CqPlace {
     /// The queue's number.
     pub number: u32,
+    /// The addresses of the first words of its two areas.
     pub areas: [u32; 2],
+    /// The log2 of the number of entries that an area has room for.
     pub ceiling: u32,
+    /// The log2 of the number of entries in use, at most 23.
     pub log: u32,
+    /// The address of word 0 of the doorbell record, the low 24 bits of the consumer index. Word 1 lies
+    /// behind it.
     pub dbr: u32,
+    /// The address of the arm register.
     pub arm_reg: u32,
+    /// The address of the word with the arm sequence number.
     pub sn: u32,
 }
 

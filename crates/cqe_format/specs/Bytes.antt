@@ -11,7 +11,7 @@ entry_bytes words = flat_map (to_be_bytes w64) words
 abbrev pub with_owner : List ℕ → ℕ → List ℕ
 with_owner words owner = take 7 words ++ (slice_index words 7 + owner) ∷ []
 
--- two byte strings have the same first bytes, so many
+-- two byte strings have the same first `count` bytes
 abbrev pub BeginAlike : ℕ → List ℕ → List ℕ → Type 0
 BeginAlike count a b = take count a ≡ take count b
 

@@ -31,7 +31,7 @@ verbs_status RetriesExceeded = 12
 verbs_status RnrRetriesExceeded = 13
 verbs_status RemoteAborted = 16
 
--- the first syndrome of which a number is told so
+-- the first syndrome of which `tell` gives this number
 abbrev pub syndrome_with : (Syndrome → ℕ) → ℕ → Option Syndrome
 syndrome_with tell number =
     find (λ syndrome. tell syndrome == number)

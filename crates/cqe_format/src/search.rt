@@ -35,7 +35,7 @@ fn first_set(bytes: &[u8; 64], first: usize, end: usize) -> Option<u32>
     None
 }
 
-/// Whether a completion may have what stands in the place of a syndrome, after the bytes before it.
+/// Whether a completion may have what stands at a syndrome's place, after the bytes before it.
 #[inline(always)]
 fn has_fit_syndrome(bytes: &[u8; 64]) -> bool
     ensures { result ≡ fits_syndrome bytes.now }
@@ -47,7 +47,7 @@ fn has_fit_syndrome(bytes: &[u8; 64]) -> bool
             & Syndrome::from_number(syndrome).is_some())
 }
 
-/// Whether a completion may have what stands in the place of a send opcode, after the bytes before it.
+/// Whether a completion may have what stands at a send opcode's place, after the bytes before it.
 #[inline(always)]
 fn has_fit_sop(bytes: &[u8; 64]) -> bool
     ensures { result ≡ fits_sop bytes.now }

@@ -23,7 +23,7 @@ pub record IsFirstQueue (d : Lines) (cq : ℕ) (q : queue.DeviceView) : Type 0 w
   pub side : q.side ≡ (fresh_adapter d).queues cq
   pub seen : q.seen ≡ 0
 
--- the first so many of them
+-- the first `count` of them
 pub record AreFirstPairs (d : Lines) (count : ℕ) (pairs : List Pair) : Type 0 where
   pub count_is : length pairs ≡ count
   pub each : (i : ℕ) (p : Pair) → slice_get pairs i ≡ Some p → IsFirstPair d (FIRST_QP + i) p

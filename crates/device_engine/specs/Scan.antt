@@ -97,7 +97,7 @@ pub record CanPublish (v : ScanView) (cq : ℕ) (completion : Cqe) : Type 0 wher
   pub completion_is : IsCompletion completion
   pub low : (q : queue.DeviceView) → slice_get v.queues cq ≡ Some q → next_index q.side.producer < 2 ^ 62
 
--- it can go on so
+-- the adapter can go on to this
 abbrev pub CanGo : ScanView → Comes → Type 0
 CanGo v Same = IsThere v v.work
 CanGo v Record = v.visit < length v.pairs

@@ -86,11 +86,11 @@ pub record RunReads (c : Call) (status : Status) : Type 0 where
   pub memory : status ≢ NoMemory
   pub tells : IsSome c.source.left
 
--- Malformed, with its line and rule, exactly where what was read is malformed so
+-- Malformed, with a line and a rule, exactly where this is the fault of what was read
 abbrev pub MalformedExactly : Call → Status → Type 0
 MalformedExactly c status = RunReads c status → (line : ℕ) (rule : TextRule) → ReadsFaulty c.source c.source_after (MalformedText line rule) → status ≡ Malformed line rule
 
--- Limit, with its name and value, exactly where what was read passes that limit so
+-- Limit, with a name and a value, exactly where what was read passes that limit with that value
 abbrev pub LimitExactly : Call → Status → Type 0
 LimitExactly c status = RunReads c status → (name : LimitName) (value : ℕ) → ReadsFaulty c.source c.source_after (PastLimit name value) → status ≡ Limit name value
 

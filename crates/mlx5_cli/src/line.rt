@@ -10,7 +10,7 @@ use scenario_text::{LimitName, TextRule};
 /// The most bytes of a line. The longest has a limit's name and twenty digits.
 pub const LINE_ROOM: usize = 64;
 
-/// A line with its line end. It takes no memory.
+/// A line with its line end. It does not allocate.
 pub type Line = ArrayString<LINE_ROOM>;
 
 /// A line without numbers.

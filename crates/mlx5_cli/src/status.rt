@@ -50,7 +50,7 @@ impl Status {
     }
 
     /// The line for standard error with its line end, or nothing where there is no line to say. It
-    /// takes no memory.
+    /// does not allocate.
     ///
     /// `Illegal` has numbers in its line; no command answers it yet.
     pub fn line(self) -> Line

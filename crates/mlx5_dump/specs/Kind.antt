@@ -11,7 +11,7 @@ kind_name Entry = codes "entry"
 kind_name Block = codes "block"
 kind_name Body = codes "body"
 
--- whether a dump of a kind may have so many bytes
+-- whether a dump of a kind may have `count` bytes
 abbrev pub has_length : Kind → ℕ → Bool
 has_length Cqe count = count == 64
 has_length Eqe count = count == 64

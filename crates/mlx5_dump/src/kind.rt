@@ -25,7 +25,7 @@ pub enum Kind {
 pub const MOST_BYTES: usize = 1040;
 
 impl Kind {
-    /// Whether a dump of this kind may have so many bytes.
+    /// Whether a dump of this kind may have `count` bytes.
     pub fn has_length(self, count: usize) -> bool
         ensures { result ≡ has_length self count }
     {

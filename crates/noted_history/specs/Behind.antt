@@ -14,7 +14,7 @@ owed_list _ = []
 abbrev pub owed_lists : List Due → List (List Item)
 owed_lists dues = flat_map owed_list dues
 
--- The lists that are owed are those that are left, but of the first perhaps a beginning.
+-- The lists that are owed are those that are left; of the first perhaps only a beginning.
 abbrev pub IsCut : List (List Item) → List (List Item) → Type 0
 IsCut [] [] = Unit {0}
 IsCut (owed ∷ later) (items ∷ rest) = (k : ℕ) × (owed ≡ take k items) × (later ≡ rest)

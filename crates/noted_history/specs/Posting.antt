@@ -13,7 +13,7 @@ list_of (Recv qp receives) = map TheReceive receives ∷ []
 list_of (Poll cq most) = []
 list_of (Drain cq count) = []
 
--- the lists that are left to be posted where so many calls are behind
+-- the lists that are left to be posted where `behind` calls are behind
 abbrev pub lists_from : List Call → ℕ → List (List Item)
 lists_from calls behind = flat_map list_of (drop behind calls)
 

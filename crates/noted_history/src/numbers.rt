@@ -20,7 +20,7 @@ pub(crate) fn queue_of(number: u32) -> Queue
     }
 }
 
-/// The oldest completions of a completion queue that no poll took, so many.
+/// The `count` oldest completions of a completion queue that no poll took.
 pub(crate) fn first_unpolled(
     alloc: Global,
     state: &Abstract,

@@ -36,7 +36,7 @@ impl Posting {
         items_of(alloc, &calls[place], count)
     }
 
-    /// The next call that posts found its queue full, after so many items. Where that is none it is over.
+    /// The next call that posts found its queue full after `accepted` items. Where these are none it is over.
     pub fn refuse(&mut self, calls: &[Call], accepted: u64)
         requires left { lists_from calls.now self.old.behind ≢ [] }
         ensures { MatchBool (accepted == 0) ((items : List Item) × TakesNext calls.now self.old.behind self.new.behind items) (self.new.behind ≡ self.old.behind) }
@@ -70,7 +70,7 @@ fn posts(call: &Call) -> bool
     }
 }
 
-/// The first items of a call that posts, so many, or all where it has fewer.
+/// The first `count` items of a call that posts, or all where it has fewer.
 fn items_of(alloc: Global, call: &Call, count: usize) -> Result<Vec<Item>, NoMemory>
     ensures { (items : List Item) → list_of call.now ≡ items ∷ [] → IfOk result (λ v. v.items ≡ take count items) }
 {

@@ -20,7 +20,7 @@ pub(crate) struct Teller {
 }
 
 impl Teller {
-    /// Before the first entry, with so many threads.
+    /// Before the first entry, with `threads` threads.
     pub fn new(alloc: Global, first: Abstract, threads: usize) -> Result<Teller, NoMemory>
         ensures { IfOk result (λ t. (t.state ≡ first) × (t.postings.items ≡ replicate threads (record { behind = 0 }))) }
     {

@@ -75,12 +75,12 @@ receive_of d qp = receives_from (first_word (map_of d) Qp qp) (qp_line d qp)
 abbrev pub completions_of : Lines → ℕ → CqPlace
 completions_of d cq = completions_from cq (first_word (map_of d) Cq cq) (cq_line d cq)
 
--- the highest words of a send or receive queue are among so many
+-- the highest words of a send or receive queue are among the first `words`
 pub record IsWithin (words : ℕ) (place : WqPlace) : Type 0 where
   pub record_word : place.dbr < words
   pub register : (r : ℕ) → place.reg ≡ Some r → r < words
 
--- the words of a completion queue are among so many: the entries of its ring, the record and the words of arms
+-- the words of a completion queue are among the first `words`: the entries of its ring, the record and the words of arms
 pub record AreWithin (words : ℕ) (place : CqPlace) : Type 0 where
   pub ring : (ring_of place).base + 8 * size (ring_of place) ≤ words
   pub record_word : place.dbr < words

@@ -11,7 +11,7 @@ pub(crate) fn places(log: u32) -> u32
     1 << log
 }
 
-/// The words of a receive entry of so many scatter/gather entries: two each, rounded up to a power of two.
+/// The words of a receive entry of `segments` scatter/gather entries: two each, rounded up to a power of two.
 pub(crate) fn stride(segments: u32) -> u32
     ensures words { result ≡ sizes.stride segments }
     ensures few { result ≤ 16 }

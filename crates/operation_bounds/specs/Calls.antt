@@ -18,7 +18,7 @@ abbrev pub is_drain : Call → Bool
 is_drain (Drain cq count) = true
 is_drain _ = false
 
--- how many operations a call of so many parts may take
+-- how many operations a call of `parts` parts may take
 abbrev pub most_operations : ℕ → ℕ
 most_operations parts = 64 * parts + 64
 

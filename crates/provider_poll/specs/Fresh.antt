@@ -26,7 +26,7 @@ fresh_sender d qp = fresh_queue qp (send_of d qp)
 abbrev pub fresh_queues : Lines → ℕ → List SendView
 fresh_queues d cq = map (fresh_sender d) (senders d cq)
 
--- the place of a queue pair's queue after so many
+-- the place of a queue pair's queue behind `queues` others
 abbrev pub next_place : Lines → (cq qp queues : ℕ) → Option ℕ
 next_place d cq qp queues = if completes_to d cq qp then Some queues else None
 

@@ -6,7 +6,7 @@ use Rattle.verbs_model.specs.declared.entry.What.TheVariants.{Retire, Ack}
 use Rattle.actor_map.specs.Notes.{note_of}
 use Rattle.actor_map.specs.declared.note.TheConstants.{POLL}
 
--- of a poll that asked for so many completions and took these, and saw the queue as published up to this index
+-- of a poll that asked for `most` completions and took `taken`, and saw the queue as published up to the index `seen`
 abbrev pub poll_note : (cq most taken seen : ℕ) → Note
 poll_note cq most taken seen = record { kind = POLL; object = cq; a = most; b = taken; c = seen; d = 0 }
 

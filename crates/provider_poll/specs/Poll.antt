@@ -54,7 +54,7 @@ MayDrop _ = Unit {0}
 abbrev pub forgotten : PollView → PollView
 forgotten v = record { host = host.forgotten v.host; queues = map forgotten_queue v.queues; state = Idle; noted = None }
 
--- its words are among the first of so many
+-- its words are among the first `words`
 pub record LiesWithin (words : ℕ) (v : PollView) : Type 0 where
   pub ring : (ring_of v.host.place).base + 8 * size (ring_of v.host.place) ≤ words
   pub record_word : v.host.place.dbr < words

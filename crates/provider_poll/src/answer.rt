@@ -3,7 +3,7 @@
 /// What a poll came to.
 #[derive(Clone, Copy, Debug, PartialEq, Eq)]
 pub enum PollAnswer {
-    /// So many completions were taken. Where they are fewer than were asked for, `empty` is the last word
+    /// `taken` completions were taken. Where they are fewer than were asked for, `empty` is the last word
     /// of the entry that software does not own.
     Polled { taken: u32, empty: Option<u64> },
 }

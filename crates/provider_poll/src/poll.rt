@@ -81,7 +81,7 @@ impl PollSide {
         })
     }
 
-    /// Starts a poll of at most so many completions, 1 to 16.
+    /// Starts a poll of at most `max` completions, 1 to 16.
     pub fn begin_poll(&mut self, max: u32)
         requires idle { self.old.state ≡ Idle }
         requires some { 0 < max }

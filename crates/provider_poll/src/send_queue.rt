@@ -10,7 +10,7 @@ use bus_core::{BusPort, Step};
 use counted_ring::{Retired, WqPlace, WqRetirer};
 use std::marker::Model;
 
-/// Ends that are no counts of requests begin here: no queue takes so many.
+/// Ends that are no counts of requests begin here: no queue takes this many.
 const MAX_END: u64 = 1 << 62;
 
 /// A send queue whose completions are polled: the number of its queue pair, and what looks its requests up

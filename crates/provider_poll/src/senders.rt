@@ -43,7 +43,7 @@ fn queue_pairs(d: &Declared) -> u32
     d.lines().qps.len() as u32
 }
 
-/// The place of the queue of a queue pair after so many; none where it completes elsewhere.
+/// The place of a queue pair's queue behind `queues` others; none where it completes elsewhere.
 fn next_place(d: &Declared, object: u32, qp: u32, queues: usize) -> Option<usize>
     requires { IsTrue (is_among FIRST_QP (length d.now.qps) qp) }
     ensures { result ≡ words.next_place d.now object qp queues }

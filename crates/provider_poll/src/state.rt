@@ -19,8 +19,8 @@ pub type Ends = ArrayVec<End, 16>;
 pub enum PollState {
     /// No poll is under way.
     Idle,
-    /// It looks at the next entry, or reads it. It wants so many completions, and these are the ends of
-    /// those that it has taken.
+    /// It looks at the next entry, or reads it. It wants `max` completions, and `ends` are those of the
+    /// completions that it has taken.
     Polling {
         max: u32,
         ends: Ends,
@@ -32,13 +32,13 @@ pub enum PollState {
         completion: Cqe,
         queue: usize,
     },
-    /// It took so many, and stores the first of these ends.
+    /// It took `taken` completions, and stores the first of the ends that are left.
     Retiring {
         taken: u32,
         empty: Option<u64>,
         left: Ends,
     },
-    /// It took so many, and stores the consumer index.
+    /// It took `taken` completions, and stores the consumer index.
     Acking {
         taken: u32,
         empty: Option<u64>,

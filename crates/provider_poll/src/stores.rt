@@ -5,7 +5,7 @@ ghost use Rattle.provider_poll.specs.Stores as words;
 use crate::send_queues::SendQueues;
 use crate::state::{End, Ends, PollState};
 
-/// A poll that took so many completions, before its next store: that of the first of these ends that its
+/// A poll that took `taken` completions, before its next store: that of the first of these ends that its
 /// queue may store, or of the consumer index where there is none. An adapter that keeps its rule leaves
 /// no end that may not be stored.
 pub(crate) fn storing(

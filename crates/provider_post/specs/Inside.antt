@@ -63,7 +63,7 @@ pub record IsSends (side : PostView) (number : ℕ) : Type 0 where
   pub register : is_send side.poster.place ≡ true
   pub stride : side.poster.place.stride ≡ 8
 
--- a side of a receive queue with blocks of so many words
+-- a side of a receive queue with blocks of `stride` words
 pub record IsReceives (side : PostView) (stride : ℕ) : Type 0 where
   pub number : ℕ
   pub queue : side.queue ≡ Recv number

@@ -52,7 +52,7 @@ after_post_side place s e = option_map (λ c. record { poster = post_side_poster
 abbrev pub post_side_answer : WqPlace → PostRule → BusEntry → Step (Unit {0}) PostAnswer
 post_side_answer place s e = answer_with (post_side_call place s e) (next_call place s e)
 
--- the items that were written are posted at the store of the record, and a queue is full at the load that shows it so
+-- the items that were written are posted at the store of the record, and a queue is told as full at the load that shows it full
 abbrev pub entry_told : Queue → List Item → Call → Told → Option What
 entry_told queue items c Nothing = None
 entry_told queue items c Wrote = None

@@ -1,6 +1,6 @@
 //! What a call to post comes to.
 
-/// Why a queue took a request not.
+/// Why a queue did not take a request.
 #[derive(Clone, Copy, Debug, PartialEq, Eq)]
 pub enum Room {
     /// As many requests as may be are not retired: `head` were posted, those of this call included,
@@ -13,7 +13,7 @@ pub enum Room {
 pub enum PostAnswer {
     /// The queue took all requests of the call, and the device was told of them.
     All { posted: u32 },
-    /// The queue took not the request with this place in the list, counted from 0. It took those before
+    /// The queue did not take the request at this place in the list, counted from 0. It took those before
     /// it, and the device was told of them; those behind it were not tried.
     Refused { bad: u32, why: Room },
 }

@@ -14,7 +14,7 @@ pub struct Call {
     pub count: u32,
     /// How many of them the queue took.
     pub accepted: u32,
-    /// Why it took the next one not, where it was asked.
+    /// Why it did not take the next one, where it was asked to.
     pub refused: Option<Room>,
     /// The record was stored.
     pub recorded: bool,

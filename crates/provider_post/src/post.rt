@@ -49,8 +49,8 @@ impl Model for PostSide {
 }
 
 impl PostSide {
-    /// An idle side of the send queue of the queue pair `object`, on which nothing was posted. It takes no
-    /// memory.
+    /// An idle side of the send queue of the queue pair `object`, on which nothing was posted. It does not
+    /// allocate.
     pub fn new(d: &Declared, map: &AddressMap, object: u32) -> PostSide
         requires object { IsTrue (is_among FIRST_QP (length d.now.qps) object) }
         requires map { map.now ≡ map_of d.now }
@@ -66,7 +66,7 @@ impl PostSide {
         }
     }
 
-    /// Starts a call of so many requests, 1 to 16.
+    /// Starts a call of `count` requests, 1 to 16.
     pub fn begin(&mut self, count: u32)
         requires idle { self.old.call ≡ None }
         requires some { 0 < count }

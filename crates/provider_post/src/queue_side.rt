@@ -60,7 +60,7 @@ impl QueueSide {
         }
     }
 
-    /// Starts a call of so many items.
+    /// Starts a call of `count` items.
     pub(crate) fn begin(&mut self, count: u32)
         requires idle { self.old.call ≡ None }
         requires some { 0 < count }

@@ -54,8 +54,8 @@ impl Model for RecvSide {
 }
 
 impl RecvSide {
-    /// An idle side of the receive queue of the queue pair `object`, on which nothing was posted. It takes
-    /// no memory.
+    /// An idle side of the receive queue of the queue pair `object`, on which nothing was posted. It does
+    /// not allocate.
     pub fn new(d: &Declared, map: &AddressMap, object: u32) -> RecvSide
         requires object { IsTrue (is_among FIRST_QP (length d.now.qps) object) }
         requires map { map.now ≡ map_of d.now }
@@ -71,7 +71,7 @@ impl RecvSide {
         }
     }
 
-    /// Starts a call of so many receives, 1 to 16.
+    /// Starts a call of `count` receives, 1 to 16.
     pub fn begin(&mut self, count: u32)
         requires idle { self.old.call ≡ None }
         requires some { 0 < count }

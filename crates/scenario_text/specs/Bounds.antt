@@ -52,11 +52,11 @@ calls_bound s = bound limits.Calls (length s.calls + 1) 0 65536
 abbrev pub together : ℕ → ℕ → ℕ
 together length before = min (length + before) (2 ^ 64 - 1)
 
--- the limits of a segment, of which there may be so many: its place, its length, and the length up to it
+-- the limits of a segment, of which there may be `most`: its place, its length, and the length up to it
 abbrev pub one_segment : ℕ → ℕ → ℕ → ℕ → List Bound
 one_segment most place length total = bound limits.Sges place 0 most ∷ bound limits.Length length 0 65536 ∷ bound limits.Length total 0 65536 ∷ []
 
--- those of segments from this place on, with so many bytes before
+-- those of segments from this place on, with `before` bytes before
 abbrev pub segment_bounds : ℕ → ℕ → ℕ → Line → List Bound
 segment_bounds most place before [] = []
 segment_bounds most place before (f ∷ fs) =

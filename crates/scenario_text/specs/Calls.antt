@@ -34,7 +34,7 @@ pub record IsSegment (s : Sge) : Type 0 where
 abbrev pub bytes_of : List Sge → ℕ
 bytes_of sges = sum_by (λ (s : Sge). s.len) sges
 
--- a receive of so many entries at most, which an entry of its queue carries
+-- a receive of at most `most` entries, which an entry of its queue carries
 pub record CanReceive (most : ℕ) (r : Receive) : Type 0 where
   pub id : r.id < 2 ^ 64
   pub few : length r.sges ≤ most

@@ -15,7 +15,7 @@ count_of (Some n) = n
 abbrev pub times_of : PlanItem → ℕ
 times_of i = count_of i.times
 
--- one turn of each of so many threads in order, and then one of the adapter
+-- one turn of each of `threads` threads in order, and then one of the adapter
 abbrev pub round_of : ℕ → List ℕ
 round_of threads = range_with_len 1 threads ++ 0 ∷ []
 
@@ -23,7 +23,7 @@ abbrev pub rounds_of : ℕ → ℕ → List ℕ
 rounds_of threads zero = []
 rounds_of threads (suc n) = round_of threads ++ rounds_of threads n
 
--- the actor of each turn, where there are so many threads
+-- the actor of each turn, where there are `threads` threads
 abbrev pub turns_of : ℕ → Plan → List ℕ
 turns_of threads Idle = []
 turns_of threads (Schedule items) = flat_map (λ (i : PlanItem). replicate (times_of i) i.actor) items

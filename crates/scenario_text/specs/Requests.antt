@@ -18,7 +18,7 @@ line fields = join_with_byte 32 fields ++ 10 ∷ []
 abbrev pub hex_digit : ℕ → ℕ
 hex_digit d = if nat_lt d 10 then 48 + d else 87 + d
 
--- the last so many hexadecimal digits of a number
+-- the last hexadecimal digits of a number, as many as the first argument says
 unfoldable pub hex : ℕ → ℕ → List ℕ
 hex zero n = []
 hex (suc k) n = hex k (n / 16) ++ hex_digit (n % 16) ∷ []

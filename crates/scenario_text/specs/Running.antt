@@ -19,7 +19,7 @@ items_of_plan Idle = []
 items_of_plan (Schedule items) = items
 items_of_plan (Rounds n) = []
 
--- the adapter or one of so many threads
+-- the adapter or one of `threads` threads
 abbrev pub IsActorOf : ℕ → PlanItem → Type 0
 IsActorOf threads i = i.actor ≤ threads
 

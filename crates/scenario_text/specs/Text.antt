@@ -76,7 +76,7 @@ name_in line = part_at line 1
 abbrev pub hex_digit : ℕ → Option ℕ
 hex_digit b = if nat_le 48 b && nat_le b 57 then Some (b - 48) else if nat_le 97 b && nat_le b 102 then Some (b - 97 + 10) else None
 
--- two values as one, where the second has so many
+-- two values as one, where the second is below `size`
 abbrev pub joined : ℕ → Option ℕ → Option ℕ → Option ℕ
 joined size (Some high) (Some low) = Some (high * size + low)
 joined size _ _ = None

@@ -56,7 +56,7 @@ impl Bound {
         }
     }
 
-    /// At most so many, where there are these and one more.
+    /// At most `most`, where there are `before` and one more.
     fn one_more(name: LimitName, before: usize, most: u64) -> Bound
         requires { before < 2 ^ 63 }
         ensures { result ≡ bounds.bound name (before + 1) 0 most }
@@ -149,7 +149,7 @@ impl Sofar {
         self.note_segments(most, segment::fields(line));
     }
 
-    /// Notes the limits of segments, of which a receive has so many at most.
+    /// Notes the limits of segments, of which a receive has at most `most`.
     fn note_segments(&mut self, most: u64, mut fields: Parts)
         requires few { length fields.left < 2 ^ 64 - 1 }
         ensures { view_of self.new ≡ record (view_of self.old) { passed = bounds.passed_after (view_of self.old).passed (bounds.segment_bounds most 1 0 fields.entry.left) } }

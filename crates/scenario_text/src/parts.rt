@@ -67,7 +67,7 @@ fn position_of(bytes: &[u8], wanted: u8) -> Option<usize>
     bytes.iter().position(|byte| *byte == wanted)
 }
 
-/// The part at a place, or no bytes where there are not so many.
+/// The part at a place, or no bytes where there is none.
 pub fn part(bytes: &[u8], separator: u8, place: usize) -> &[u8]
     ensures { result.now ≡ part_at (split separator bytes.now) place }
 {
@@ -78,7 +78,7 @@ pub fn part(bytes: &[u8], separator: u8, place: usize) -> &[u8]
     left.next_part().unwrap_or(b"")
 }
 
-/// Whether there are so many parts.
+/// Whether there are `number` parts.
 pub fn has_parts(bytes: &[u8], separator: u8, number: usize) -> bool
     ensures { result ≡ (length (split separator bytes.now) == number) }
 {

@@ -22,7 +22,7 @@ pub enum Plan {
     Idle,
     /// These items, one after another.
     Schedule(Sequence<PlanItem>),
-    /// So many rounds, each one turn of every thread in order and then one of the adapter.
+    /// This number of rounds, each one turn of every thread in order and then one of the adapter.
     Rounds(u64),
 }
 

@@ -35,7 +35,7 @@ abbrev pub HasRoomFor : List Completion → Step Completion PollAnswer → Type 
 HasRoomFor given (Gave completion) = length given < 16
 HasRoomFor given _ = Unit {0}
 
--- a poll of at most so many can begin
+-- a poll of at most `most` completions can begin
 pub record CanBegin (side : PollView) (most : ℕ) : Type 0 where
   pub some : 0 < most
   pub few : most ≤ 16
@@ -47,7 +47,7 @@ HasRoomAt given (states.Polling asked ends) = length given < 16
 HasRoomAt given (states.LookingUp asked ends c queue) = length given < 16
 HasRoomAt given _ = Unit {0}
 
--- a side of which a poll of at most so many is under way, or may begin
+-- a side of which a poll of at most `most` completions is under way, or may begin
 pub record MayGoOn (side : PollView) (most : ℕ) (given : List Completion) : Type 0 where
   pub begin : CanBegin side most
   pub room : HasRoomAt given (begun side most).state

@@ -16,7 +16,7 @@ use Rattle.thread_actor.specs.declared.posts.Posted.{Posted}
 abbrev pub begun : PostView → ℕ → PostView
 begun side count = with_call side (Some (unwrap_or side.call (fresh_call count)))
 
--- a call of so many items can begin
+-- a call of `count` items can begin
 pub record CanBegin (side : PostView) (count : ℕ) : Type 0 where
   pub some : 0 < count
   pub few : count ≤ 16

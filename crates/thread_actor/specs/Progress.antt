@@ -16,7 +16,7 @@ after_poll p (Some taken) = next_after p
 abbrev pub after_one : Progress → ℕ → Progress
 after_one p count = if nat_lt (p.taken + 1) count then record { finished = p.finished; taken = p.taken + 1 } else next_after p
 
--- a drain of so many looks again where there was no completion
+-- a drain of `count` looks again where there was no completion
 abbrev pub after_drain : Progress → ℕ → Option ℕ → Progress
 after_drain p count None = p
 after_drain p count (Some taken) = if taken == 0 then p else after_one p count

@@ -32,7 +32,7 @@ impl Polled {
     }
 }
 
-/// Makes the next operation of a poll of at most so many, which may be about to begin.
+/// Makes the next operation of a poll of at most `max` completions, which may be about to begin.
 pub(crate) fn poll<P: BusPort>(
     sides: &mut [Option<PollSide>],
     place: usize,
@@ -64,7 +64,7 @@ fn poll_on<P: BusPort>(side: &mut PollSide, max: u32, given: &mut Given, port: &
     }
 }
 
-/// Begins a poll of at most so many, where none is under way.
+/// Begins a poll of at most `max` completions, where none is under way.
 fn begin_poll(side: &mut PollSide, max: u32)
     requires { CanBegin side.old max }
     ensures { side.new ≡ begun side.old max }

@@ -49,7 +49,7 @@ fn post_on<P: BusPort>(side: &mut PostSide, requests: &[Request], port: &mut P) 
     }
 }
 
-/// Begins a call of so many requests, where none is under way.
+/// Begins a call of `count` requests, where none is under way.
 fn begin_post(side: &mut PostSide, count: usize)
     requires { side.old.call ≡ None → CanBegin side.old count }
     ensures { side.new ≡ begun side.old count }
@@ -89,7 +89,7 @@ fn receive_on<P: BusPort>(side: &mut RecvSide, receives: &[Receive], port: &mut 
     }
 }
 
-/// Begins a call of so many receives, where none is under way.
+/// Begins a call of `count` receives, where none is under way.
 fn begin_receive(side: &mut RecvSide, count: usize)
     requires { side.old.call ≡ None → CanBegin side.old count }
     ensures { side.new ≡ begun side.old count }

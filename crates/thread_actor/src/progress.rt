@@ -52,7 +52,7 @@ impl Progress {
         }
     }
 
-    /// After an operation of a poll of a drain of so many. Where there was no completion, the drain looks again.
+    /// After an operation of a poll in a drain of `count`. Where there was no completion, the drain looks again.
     pub fn after_drain(&self, count: u32, taken: Option<u32>) -> Progress
         requires { self.now.finished < 2 ^ 16 }
         ensures { result ≡ words.after_drain self.now count taken }
@@ -63,7 +63,7 @@ impl Progress {
         }
     }
 
-    /// After one more completion of a drain of so many.
+    /// After one more completion of a drain of `count`.
     fn after_one(&self, count: u32) -> Progress
         requires { self.now.finished < 2 ^ 16 }
         ensures { result ≡ words.after_one self.now count }

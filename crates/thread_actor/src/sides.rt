@@ -142,7 +142,7 @@ impl Sides {
     }
 }
 
-/// So many places without a side.
+/// `count` places without a side.
 fn none_of<S: Drop>(alloc: Global, count: usize) -> Result<Vec<Option<S>>, NoMemory>
     ensures { IfOk result (λ sides. sides.items ≡ replicate count None) }
 {

@@ -16,7 +16,7 @@ const FRAME: usize = 36;
 
 /// Prints a trace, in this project's own form: a title, a line an operation, and the count of
 /// operations. The line of a marked operation ends in an asterisk. Where an operation that reads
-/// has no old word, which no bus leaves, 0 stands for it. Memory is taken once, before the first
+/// has no old word, which no bus leaves, 0 stands for it. Memory is asked for once, before the first
 /// line; the only error is that it ran out.
 pub fn print_trace(
     alloc: Global,

@@ -22,7 +22,7 @@ impl Model for TextWriter {
 }
 
 impl TextWriter {
-    /// The empty text. It takes no memory.
+    /// The empty text. It does not allocate.
     pub fn new(alloc: Global) -> Self
         ensures { result ≡ [] }
     {
@@ -31,7 +31,7 @@ impl TextWriter {
         }
     }
 
-    /// The empty text, with room for so many bytes: while they last, what is added takes no memory.
+    /// The empty text, with room for `capacity` bytes: while they last, adding to it does not allocate.
     pub fn with_capacity(alloc: Global, capacity: usize) -> Result<Self, NoMemory>
         ensures { IfOk result (λ out. out ≡ []) }
     {

@@ -19,7 +19,7 @@ pub data Due : Type 0 where
   Posting : (queue : Queue) (items : List Item) → Due
   -- the post of what was accepted before the queue was full
   Accepting : (queue : Queue) (items : List Item) → Due
-  -- a poll for at most so many
+  -- a poll for at most `most`
   Polling : (cq most : ℕ) → Due
   -- a poll that takes one
   Draining : (cq : ℕ) → Due

@@ -10,11 +10,11 @@ use Rattle.verbs_model.specs.Tables.{place_of}
 abbrev pub no_held : Held
 no_held = record { queue = no_queue; spare = 0 }
 
--- each completion's queue is one of so many
+-- each completion's queue is one of the first `count`
 abbrev pub ArePlaced : ℕ → List Unpolled → Type 0
 ArePlaced count taken = All (λ (u : Unpolled). place_of u.completion.queue < count) taken
 
--- each completion's queue has room for so many ends
+-- each completion's queue has room for `ends` more ends
 abbrev pub HaveRoom : List Held → ℕ → List Unpolled → Type 0
 HaveRoom queues ends taken = All (λ (u : Unpolled). ends ≤ (slice_index_or queues (place_of u.completion.queue) no_held).spare) taken
 

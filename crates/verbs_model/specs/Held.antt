@@ -4,5 +4,5 @@ use Rattle.verbs_model.specs.State.{WorkQueue}
 
 pub record Held : Type 0 where
   pub queue : WorkQueue
-  -- how many more polled completions it can keep without taking memory
+  -- how many more polled completions it can keep without an allocation
   pub spare : ℕ

@@ -10,7 +10,7 @@ use Rattle.verbs_model.specs.declared.declaration.Object.TheVariants.{Eq, Pd, Cq
 use Rattle.verbs_model.specs.declared.declaration.Lines.{Lines}
 use Rattle.verbs_model.specs.declared.declaration.TheConstants.{FIRST_PD, FIRST_QP}
 
--- the number is one of so many, counted from the first
+-- the number is one of `count`, counted from `first`
 abbrev pub is_among : ℕ → ℕ → ℕ → Bool
 is_among first count number = nat_le first number && nat_lt (number - first) count
 

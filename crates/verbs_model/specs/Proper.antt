@@ -83,7 +83,7 @@ AreProper pairs cqs free (d ∷ ds) = IsNext pairs cqs free d × AllByRecursion 
 abbrev pub OnePosts : List (List Due) → Type 0
 OnePosts dues = (qp t u : ℕ) → t ≢ u → (list_any (posts_on qp) (dues_of_thread dues t) ≡ false) ⊎ (list_any (posts_on qp) (dues_of_thread dues u) ≡ false)
 
--- what the threads owe, where each send queue has room for so many more requests
+-- what the threads owe, where each send queue has room for `free` more requests
 pub record Owing (pairs cqs : ℕ → Bool) (free : ℕ → ℕ) (dues : List (List Due)) : Type 0 where
   pub few : length dues ≤ 16
   pub poster : OnePosts dues

@@ -35,7 +35,7 @@ Climbs least (n ∷ ns) most = (least < n) × Climbs n ns most
 
 -- Each queue
 
--- a send queue, of which so many requests wait, and so many are to be posted and to be retired; in all at most so many are posted
+-- a send queue, of which the requests `waits` wait, `items` are still to be posted and `retired_after` to be retired; in all at most `total` are posted
 pub record QueueSane (u : WorkQueue) (waits : List ℕ) (items retired_after total : ℕ) : Type 0 where
   pub taken : u.taken ≤ length u.posted
   pub outstanding : length u.posted - u.retired ≤ u.room
@@ -64,8 +64,8 @@ abbrev pub into : (ℕ → QueuePair) → (ℕ → ℕ) → ℕ → ℕ → ℕ 
 into pairs count cq qp zero = 0
 into pairs count cq qp (suc n) = (if (pairs qp).send_cq == cq then count qp else 0) + into pairs count cq (qp + 1) n
 
--- a completion queue to which so many completions are owed; so many requests that complete into it were taken, and at
--- most so many can be
+-- a completion queue to which `owes` completions are owed; `takes` requests that complete into it were taken, and at
+-- most `most` can be
 pub record CompletionsSane (lives : ℕ → Bool) (pairs : ℕ → QueuePair) (live : Bool) (cq : ℕ) (c : CompletionQueue) (owes takes most first : ℕ) : Type 0 where
   pub homed : AllByRecursion (IsHomed lives pairs cq) c.unpolled
   pub acked : c.acked + length c.unpolled ≤ c.produced

@@ -47,9 +47,9 @@ pub enum HistoryCommand {
     Disable,
     /// QUERY_PAGES.
     QueryPages(PageUse),
-    /// MANAGE_PAGES that gives so many pages.
+    /// MANAGE_PAGES that gives `count` pages.
     GivePages { count: u64 },
-    /// MANAGE_PAGES that asks for so many pages back.
+    /// MANAGE_PAGES that asks for `count` pages back.
     ReturnPages { count: u64 },
     /// INIT_HCA.
     Init,

@@ -58,7 +58,7 @@ impl CompletionQueue {
         &self.published[self.polled..]
     }
 
-    /// The first rule that a poll for at most so many breaks which took these.
+    /// The first rule that is broken by a poll for at most `most` completions that took these.
     pub(crate) fn poll_fault(&self, most: u64, completions: &[Completion]) -> Option<RuleName>
         ensures { result ≡ first_failing (rows.poll_needs self.now most completions.now) }
     {
@@ -88,7 +88,7 @@ impl CompletionQueue {
         ((self.published.len() - self.acked) as u64) < self.size
     }
 
-    /// Takes so many from the front.
+    /// Takes `count` from the front.
     pub(crate) fn poll(&mut self, count: usize)
         requires { count ≤ length self.old.unpolled }
         ensures { self.new ≡ record self.old { unpolled = drop count self.old.unpolled } }

@@ -117,8 +117,8 @@ impl Model for Declared {
 pub struct NotDeclared;
 
 impl Declared {
-    /// These lines, where each of them names declared objects alone and is within the limits. It takes no
-    /// memory.
+    /// These lines, where each of them names declared objects alone and is within the limits. It does not
+    /// allocate.
     pub fn new(lines: Lines) -> Result<Declared, NotDeclared>
         ensures found { IfOk result (λ d. d ≡ lines) }
         ensures only { IsOk result ↔ IsTrue (tests.is_declared lines) }
@@ -176,7 +176,7 @@ fn are_in_turn(lines: &Lines) -> bool
         && is_past(qp, FIRST_QP, lines.qps.len())
 }
 
-/// Whether a number is the first after so many that begin with `first`.
+/// Whether a number is the first after `count` numbers that begin with `first`.
 fn is_past(number: usize, first: u32, count: usize) -> bool
     ensures { result ≡ (number == first + count) }
 {
@@ -219,7 +219,7 @@ fn are_connect_lines(lines: &Lines) -> bool
         .all(|line| is_connect_line(lines, line))
 }
 
-/// Whether a number is one of so many, counted from the first.
+/// Whether a number is one of `count`, counted from `first`.
 pub(crate) fn is_among(first: u32, count: usize, number: u32) -> bool
     ensures { result ≡ tests.is_among first count number }
 {

@@ -19,7 +19,7 @@ impl<T> Model for Sequence<T> {
 }
 
 impl<T> Sequence<T> {
-    /// The same items. It takes no memory.
+    /// The same items. It does not allocate.
     pub fn from_vec(items: Vec<T>) -> Self
         ensures { result ≡ items.items }
     {
@@ -33,7 +33,7 @@ impl<T> Sequence<T> {
         self.items.as_slice()
     }
 
-    /// The items, handed back without taking memory.
+    /// The items, handed back without an allocation.
     pub fn into_vec(self) -> Vec<T>
         ensures { result.items ≡ self }
     {

@@ -70,7 +70,7 @@ impl WorkQueue {
         None
     }
 
-    /// Whether so many more may be posted.
+    /// Whether `count` more may be posted.
     fn has_room(&self, count: usize) -> bool
         ensures { result ≡ nat_le (length self.now.queue.posted + count - self.now.queue.retired) self.now.queue.room }
     {
@@ -140,7 +140,7 @@ impl WorkQueue {
         self.taken = number;
     }
 
-    /// Makes room for so many more ends.
+    /// Makes room for `count` more ends.
     pub(crate) fn reserve_ends(&mut self, count: usize) -> Result<(), AllocError>
         ensures unchanged { self.new.queue ≡ self.old.queue }
         ensures room { OnOk result (count ≤ self.new.spare) }

@@ -49,7 +49,7 @@ pub record IsInlineOf (bytes words : List ℕ) (k count : ℕ) : Type 0 where
   pub size : inline_units (length bytes) ≡ count
   pub spelled : HasInline bytes words k
 
--- the data of an entry of so many units
+-- the data of an entry of `count` units
 pub record IsBodyOf (opcode : Opcode) (count : ℕ) (body : SentBody) (words : List ℕ) : Type 0 where
   pub size : fixed_units opcode + body_units body ≡ count
   pub carried : MayCarry opcode body

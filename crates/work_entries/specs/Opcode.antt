@@ -43,7 +43,7 @@ fixed_units RdmaRead = 2
 fixed_units AtomicCs = 3
 fixed_units AtomicFa = 3
 
--- at most so many units of data
+-- the most units of data
 abbrev pub most_data : Opcode → ℕ
 most_data Nop = 0
 most_data _ = 8

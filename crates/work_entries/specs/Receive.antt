@@ -14,7 +14,7 @@ end_of_list = record { key = 0x100; addr = 0; len = 0 }
 abbrev pub IsReal : Sge → Type 0
 IsReal sge = sge ≢ end_of_list
 
--- how many segments so many words have room for, of an entry of at most 16 words
+-- how many segments an entry of `stride` words has room for; more than 16 words count as 16
 abbrev pub room_of : ℕ → ℕ
 room_of stride = min (stride / 2) 8
 
@@ -25,7 +25,7 @@ pub record IsReceive (sges : List Sge) (room : ℕ) (words : List ℕ) : Type 0 
   pub segments : HasSegments sges words 0
   pub ended : length sges < room → Spells DataUnit (segment_values end_of_list) (unit words (length sges))
 
--- how many units so many segments and the end of the list take
+-- how many units `count` segments and the end of the list take
 abbrev pub used_units : ℕ → ℕ → ℕ
 used_units count room = min (count + 1) room
 

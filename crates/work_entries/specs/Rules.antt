@@ -20,7 +20,7 @@ use Rattle.work_entries.specs.Body.{begins_inline, inline_count, inline_units}
 abbrev pub at_unit : ℕ → EntryRule → Bool → Rule BadEntry
 at_unit k why holds = rule holds (record { unit = k; why = why })
 
--- whether an entry of an opcode can have so many units in so many blocks
+-- whether an entry of an opcode can have `count` units in `blocks` blocks
 abbrev pub has_size : Opcode → ℕ → ℕ → Bool
 has_size opcode count blocks =
     nat_le (fixed_units opcode) count && nat_le count (fixed_units opcode + most_data opcode) && (blocks == blocks_of count)
@@ -80,7 +80,7 @@ abbrev pub inline_rules : List ℕ → ℕ → ℕ → List (Rule BadEntry)
 inline_rules words k count =
     at_unit k Size (has_inline_size (inline_count (unit words k)) count) ∷ at_unit (k + count - 1) Reserved (is_filled words k count) ∷ []
 
--- whether the data of an entry of so many units is inline
+-- whether the data of an entry of `count` units is inline
 abbrev pub is_inline : Opcode → List ℕ → ℕ → Bool
 is_inline opcode words count = may_inline opcode && nat_lt (fixed_units opcode) count && begins_inline (unit words (fixed_units opcode))
 

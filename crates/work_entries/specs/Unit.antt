@@ -19,7 +19,7 @@ units words k (suc count) = unit words k ++ units words (suc k) count
 abbrev pub is_clear_unit : List ℕ → ℕ → Bool
 is_clear_unit words k = (slice_index words (2 * k) == 0) && (slice_index words (2 * k + 1) == 0)
 
--- how many blocks so many units take
+-- how many blocks `count` units take
 abbrev pub blocks_of : ℕ → ℕ
 blocks_of count = (count + 3) / 4
 

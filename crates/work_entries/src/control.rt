@@ -83,7 +83,7 @@ fn opcode_in(unit: &[u8; 16]) -> Option<Opcode>
     Opcode::from_number(ctrl_rows!(field_of[Opcode]).get(unit) as u8)
 }
 
-/// Whether an entry of an opcode can have so many units in so many blocks.
+/// Whether an entry of an opcode can have `units` units in `blocks` blocks.
 fn has_size(opcode: Opcode, units: usize, blocks: u32) -> bool
     requires { units < 256 }
     ensures { result ≡ fits_opcode opcode units blocks }

@@ -19,7 +19,7 @@ use crate::inline_bytes::InlineBytes;
 use crate::units::{put_unit, unit_at};
 use prm_fields::{field_of, inline_rows};
 
-/// How many units an inline segment of so many bytes takes: four bytes of head, and then the bytes.
+/// How many units an inline segment of `bytes` bytes takes: four bytes of head, and then the bytes.
 pub(crate) fn inline_units(bytes: usize) -> usize
     requires { bytes ≤ 60 }
     ensures { result ≡ units_for bytes }
@@ -27,7 +27,7 @@ pub(crate) fn inline_units(bytes: usize) -> usize
     (4 + bytes + 15) / 16
 }
 
-/// The head of an inline segment of so many bytes.
+/// The head of an inline segment of `bytes` bytes.
 fn inline_head(bytes: usize) -> [u8; 4]
     requires { bytes ≤ 60 }
     ensures { Spells InlineLayout (inline_values bytes) result }
@@ -98,7 +98,7 @@ fn segment_at(words: &[u64; 32], first: usize) -> [u8; 64]
     segment
 }
 
-/// Whether an inline segment of so many bytes takes just so many units.
+/// Whether an inline segment of `bytes` bytes takes just `count` units.
 fn has_inline_size(bytes: usize, count: usize) -> bool
     ensures { result ≡ has_size bytes count }
 {

@@ -2,7 +2,7 @@
 
 use std::marker::Model;
 
-/// Up to 60 bytes, which contracts see as a list. It takes no memory.
+/// Up to 60 bytes, which contracts see as a list. It does not allocate.
 #[derive(Clone, Copy, Debug, PartialEq, Eq)]
 pub struct InlineBytes {
     count: u8,

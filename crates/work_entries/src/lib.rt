@@ -8,7 +8,7 @@
 //! - [`laws`] says that no entry has two meanings, that no request has two entries, and that what was
 //!   written is read again.
 //!
-//! No call takes memory.
+//! No call allocates.
 #![tactic(auto)]
 
 mod control;

@@ -19,7 +19,7 @@ const END: Sge = Sge {
     len: 0,
 };
 
-/// How many segments so many words have room for, of an entry of at most 16 words.
+/// How many segments an entry of `stride` words has room for; more than 16 words count as 16.
 fn room_of(stride: u32) -> usize
     ensures value { result ≡ room_for stride }
     ensures most { result ≤ 8 }

@@ -3,7 +3,7 @@
 use std::marker::Model;
 use verbs_model::Sge;
 
-/// Up to eight scatter/gather entries, which contracts see as a list. It takes no memory.
+/// Up to eight scatter/gather entries, which contracts see as a list. It does not allocate.
 #[derive(Clone, Copy, Debug, PartialEq, Eq)]
 pub struct SgeArray {
     count: u32,

@@ -13,7 +13,7 @@ pub struct SendWords {
     pub words: [u64; 32],
 }
 
-/// How many blocks so many units take.
+/// How many blocks `units` units take.
 pub(crate) fn blocks_of(units: usize) -> usize
     requires { units ≤ 256 }
     ensures { result ≡ blocks_for units }

@@ -26,7 +26,7 @@ use Rattle.world_core.specs.Run.{RunView}
 abbrev pub actors_after : Lines → List (List Call) → List (Marked Mark) → Actors
 actors_after d programs trace = fold (after d) (fresh_actors d programs) trace
 
--- after so many turns every count and index is below this one: they begin at most at 2 ^ 32
+-- after `turns` turns every count and index is below this one: they begin at most at 2 ^ 32
 abbrev pub low_after : ℕ → ℕ
 low_after turns = 2 ^ 32 + 1 + 64 * turns
 

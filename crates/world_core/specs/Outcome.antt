@@ -23,7 +23,7 @@ pub record Makes (w : Actors) (actor : ℕ) (x : Marked Mark) : Type 0 where
   pub going : has_ended w actor ≡ false
   pub by : x.entry.actor ≡ actor
 
--- Each turn makes the next operation, but that of an actor that has ended none.
+-- Each turn makes the next operation; the turn of an actor that has ended makes none.
 abbrev pub AreTurns : Lines → Actors → List ℕ → List (Marked Mark) → Type 0
 AreTurns d w [] [] = Unit {0}
 AreTurns d w [] (x ∷ trace) = ⊥

@@ -21,7 +21,7 @@ pub record AreFresh (d : Lines) (programs : List (List Call)) (threads : List Th
   pub count : length threads ≡ length programs
   pub each : (t : ℕ) (v : ThreadView) → slice_get threads t ≡ Some v → thread.IsFresh d (suc t) (slice_index_or programs t []) v
 
--- the words with which a run begins, and room for so many operations
+-- the words with which a run begins, and room for `room` operations
 pub record IsFirstBus (d : Lines) (room : ℕ) (bus : Plain) : Type 0 where
   pub start : bus.start ≡ starts d 1
   pub words : length bus.start ≡ words_of d

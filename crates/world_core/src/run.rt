@@ -23,7 +23,7 @@ pub(crate) struct Run {
 }
 
 impl Run {
-    /// A turn of the adapter or of a thread: one operation, but of a thread that has ended none.
+    /// A turn of the adapter or of a thread: one operation, or none of a thread that has ended.
     pub fn turn(&mut self, actor: u8)
         requires { CanTurn (run_view self.old) actor }
         ensures { Turns (run_view self.old) (run_view self.new) actor }

@@ -48,7 +48,7 @@ fn map_of_objects(alloc: Global, declared: &Declared) -> Result<AddressMap, NoMe
     }
 }
 
-/// Room for so many turns.
+/// Room for `count` turns.
 fn room_for(alloc: Global, count: usize) -> Result<Vec<Turn>, NoMemory>
     ensures none { IfOk result (λ turns. turns.items ≡ []) }
     ensures room { IfOk result (λ turns. count ≤ vec_capacity turns) }
@@ -59,7 +59,7 @@ fn room_for(alloc: Global, count: usize) -> Result<Vec<Turn>, NoMemory>
     }
 }
 
-/// The words with which a run begins, and room for so many operations.
+/// The words with which a run begins, and room for `room` operations.
 fn first_bus(alloc: Global, declared: &Declared, room: u64) -> Result<PlainBus, NoMemory>
     requires { words_of declared.now ≤ 2 ^ 20 }
     ensures { IfOk result (IsFirstBus declared.now room) }

@@ -12,7 +12,7 @@ pub(crate) fn times(item: PlanItem) -> u64
     item.times.unwrap_or(1)
 }
 
-/// How many turns a plan has, where there are so many threads.
+/// How many turns a plan has, where there are `threads` threads.
 pub(crate) fn turns_of(threads: usize, plan: &Plan) -> u64
     requires threads { threads ≤ 16 }
     requires turns { turn_count threads plan.now ≤ 1048576 }

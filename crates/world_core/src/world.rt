@@ -63,8 +63,8 @@ impl World {
         })
     }
 
-    /// A turn of the adapter, or of a thread of the scenario: one operation, but of a thread that has ended none. It
-    /// takes no memory.
+    /// A turn of the adapter, or of a thread of the scenario: one operation, or none of a thread that has ended. It
+    /// does not allocate.
     pub fn turn(&mut self, actor: u8)
         requires left { length self.old.turns < turn_count (length self.old.parts.lines.threads) self.old.parts.plan }
         requires actor { actor ≤ length self.old.parts.programs }
@@ -75,7 +75,7 @@ impl World {
         self.run.turn(actor);
     }
 
-    /// All turns of the scenario's plan. It takes no memory.
+    /// All turns of the scenario's plan. It does not allocate.
     pub fn run_schedule(&mut self)
         requires { self.old.turns ≡ [] }
         ensures { self.new ≡ record self.old { turns = turns_of_plan (length self.old.parts.lines.threads) self.old.parts.plan } }
@@ -129,7 +129,7 @@ impl World {
         }
     }
 
-    /// So many turns of one actor.
+    /// `count` turns of one actor.
     fn turn_times(&mut self, actor: u8, count: u64)
         requires left { length self.old.turns + count ≤ turn_count (length self.old.parts.lines.threads) self.old.parts.plan }
         requires actor { actor ≤ length self.old.parts.programs }
@@ -140,7 +140,7 @@ impl World {
         }
     }
 
-    /// So many rounds.
+    /// `rounds` rounds.
     fn run_rounds(&mut self, rounds: u64)
         requires begins { self.old.turns ≡ [] }
         requires rounds { rounds_of_plan self.old.parts.plan ≡ Some rounds }
