@@ -12,9 +12,6 @@ from_folder() { "$dump" <"$PWD"; }
 into_full_device() { "$dump" <"$table/stdin" >/dev/full; }
 of_text() { printf '%s' "$1" | "$dump"; }
 
-# The first run builds the program.
-"$dump" </dev/null >/dev/null
-
 judge 'the stored table' "$("$dump" <"$table/stdin" | cmp - "$table/stdout" && printf same)" same
 judge 'byte by byte' "$(dd bs=1 status=none if="$table/stdin" | "$dump" | cmp - "$table/stdout" && printf same)" same
 judge 'the empty text' "$(of_text '')" ''

@@ -4,8 +4,7 @@ set -uo pipefail
 shopt -s nullglob
 cd -- "$(dirname -- "${BASH_SOURCE[0]}")/.."
 
-passed=0
-failed=0
+source tests/judging.bash
 for scenario in examples/*.scenario; do
     if ./mlx5 run <"$scenario" | cmp - "${scenario%.scenario}.output"; then
         passed=$((passed + 1))
@@ -14,5 +13,4 @@ for scenario in examples/*.scenario; do
         printf '%s: another output\n' "$scenario"
     fi
 done
-printf '%d passed, %d failed\n' "$passed" "$failed"
-[[ $failed -eq 0 ]]
+counted

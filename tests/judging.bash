@@ -1,4 +1,6 @@
-# Cases of a program as a process, counted as passed and failed. A check sources it.
+# Cases of a program as a process, counted as passed and failed. A check sources it. The programs are the proved
+# ones alone.
+export PROVED_ONLY=1
 passed=0
 failed=0
 
@@ -8,7 +10,7 @@ judge() {
         passed=$((passed + 1))
     else
         failed=$((failed + 1))
-        printf '%s: %q in place of %q\n' "$1" "$2" "$3"
+        printf '%s: %q instead of %q\n' "$1" "$2" "$3"
     fi
 }
 

@@ -23,9 +23,6 @@ of_32_large_queues() { { echo 'eq e 6'; printf 'cq c%d 12 12 e 0\n' {0..31}; } |
 of_long_text() { head -c 4194305 /dev/zero | "$mlx5" run; }
 of_text() { printf '%s' "$1" | "$mlx5" run; }
 
-# The first run builds the program.
-"$mlx5" run </dev/null >/dev/null
-
 judge 'the empty text' "$(said "$mlx5" run </dev/null)" '0 '
 judge 'another folder' "$(said from_elsewhere)" '0 '
 judge 'no words' "$(said "$mlx5")" '2 mlx5: usage'

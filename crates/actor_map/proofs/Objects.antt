@@ -3,11 +3,11 @@ use Rattle.std.proofs.Common.{◌≡◌, ℕ, zero, suc, ◌+◌, ◌-◌, ◌<�
 use Rattle.std.specs.List.{sum}
 use Rattle.std.proofs.lemmas.List.{length-append, length-map, get_or_append_left, get_or-append-add}
 use Rattle.std.proofs.lemmas.List.Sums.{sum-map, sum_by-append}
-use Rattle.verbs_model.specs.declared.declaration.EqLine.{EqLine}
-use Rattle.verbs_model.specs.declared.declaration.CqLine.{CqLine}
-use Rattle.verbs_model.specs.declared.declaration.QpLine.{QpLine}
-use Rattle.verbs_model.specs.declared.declaration.Lines.{Lines}
-use Rattle.verbs_model.specs.declared.declaration.TheConstants.{FIRST_QP}
+use Rattle.verbs_types.specs.declared.declaration.EqLine.{EqLine}
+use Rattle.verbs_types.specs.declared.declaration.CqLine.{CqLine}
+use Rattle.verbs_types.specs.declared.declaration.QpLine.{QpLine}
+use Rattle.verbs_types.specs.declared.declaration.Lines.{Lines}
+use Rattle.verbs_types.specs.declared.declaration.TheConstants.{FIRST_QP}
 use Rattle.actor_map.specs.declared.sizes.TheConstants.{FIRST_OBJECT}
 use Rattle.actor_map.specs.Apart.{AreApart, AreInside, IsWhole}
 use Rattle.actor_map.specs.Sizes.{cq_words, eq_words, firsts, qp_words, sizes, words_of}

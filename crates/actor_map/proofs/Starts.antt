@@ -4,10 +4,10 @@ use Rattle.std.specs.List.{flat_map, sum_by}
 use Rattle.std.proofs.lemmas.List.{length-append, length-replicate}
 use Rattle.std.proofs.lemmas.List.Concat.{length-flat_map}
 use Rattle.bus_core.specs.Plain.{Plain}
-use Rattle.verbs_model.specs.declared.declaration.EqLine.{EqLine}
-use Rattle.verbs_model.specs.declared.declaration.CqLine.{CqLine}
-use Rattle.verbs_model.specs.declared.declaration.QpLine.{QpLine}
-use Rattle.verbs_model.specs.declared.declaration.Lines.{Lines}
+use Rattle.verbs_types.specs.declared.declaration.EqLine.{EqLine}
+use Rattle.verbs_types.specs.declared.declaration.CqLine.{CqLine}
+use Rattle.verbs_types.specs.declared.declaration.QpLine.{QpLine}
+use Rattle.verbs_types.specs.declared.declaration.Lines.{Lines}
 use Rattle.actor_map.specs.declared.sizes.TheConstants.{FIRST_OBJECT}
 use Rattle.actor_map.specs.Setting.{CanSet}
 use Rattle.actor_map.specs.Sizes.{cq_words, eq_words, qp_words, receive_words, send_words, words_of}

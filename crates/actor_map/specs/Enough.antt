@@ -1,13 +1,13 @@
 -- What a note that fits its entry says of the state: a count of another actor that its maker saw earlier decides as the present one does.
 use Rattle.std.specs.Prelude.{ℕ, ◌≡◌, ◌+◌, ◌-◌, ◌<◌, ◌≤◌, List, length}
 use Rattle.bus_core.specs.declared.turn.Note.{Note}
-use Rattle.verbs_model.specs.declared.request.Item.{Item}
-use Rattle.verbs_model.specs.declared.completion.Queue.{Queue}
-use Rattle.verbs_model.specs.declared.completion.Completion.{Completion}
-use Rattle.verbs_model.specs.declared.entry.Entry.{Entry}
-use Rattle.verbs_model.specs.declared.entry.What.{What}
-use Rattle.verbs_model.specs.declared.entry.What.TheVariants.{Post, PostFull, Fetch, Publish}
-use Rattle.verbs_model.specs.State.{Verbs}
+use Rattle.verbs_types.specs.declared.request.Item.{Item}
+use Rattle.verbs_types.specs.declared.completion.Queue.{Queue}
+use Rattle.verbs_types.specs.declared.completion.Completion.{Completion}
+use Rattle.verbs_types.specs.declared.entry.Entry.{Entry}
+use Rattle.verbs_types.specs.declared.entry.What.{What}
+use Rattle.verbs_types.specs.declared.entry.What.TheVariants.{Post, PostFull, Fetch, Publish}
+use Rattle.verbs_rules.specs.State.{Verbs}
 use Rattle.actor_map.specs.Notes.{Fits}
 
 abbrev pub made_by : ℕ → What → Entry

@@ -1,6 +1,6 @@
 -- Why there is no map.
 use Rattle.std.specs.Prelude.{◌≡◌, ◌^◌, ◌<◌}
-use Rattle.verbs_model.specs.declared.declaration.Lines.{Lines}
+use Rattle.verbs_types.specs.declared.declaration.Lines.{Lines}
 use Rattle.actor_map.specs.declared.map.MapFault.{MapFault}
 use Rattle.actor_map.specs.declared.map.MapFault.TheVariants.{TooManyWords, NoMemory}
 use Rattle.actor_map.specs.Sizes.{words_of}

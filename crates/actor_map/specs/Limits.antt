@@ -1,8 +1,8 @@
 -- The limits of a declaration on which the size of its object depends.
 use Rattle.std.specs.Prelude.{◌≤◌}
-use Rattle.verbs_model.specs.declared.declaration.EqLine.{EqLine}
-use Rattle.verbs_model.specs.declared.declaration.CqLine.{CqLine}
-use Rattle.verbs_model.specs.declared.declaration.QpLine.{QpLine}
+use Rattle.verbs_types.specs.declared.declaration.EqLine.{EqLine}
+use Rattle.verbs_types.specs.declared.declaration.CqLine.{CqLine}
+use Rattle.verbs_types.specs.declared.declaration.QpLine.{QpLine}
 
 abbrev pub IsEqSize : EqLine → Type 0
 IsEqSize l = l.log ≤ 10

@@ -1,7 +1,7 @@
 -- The map of declared objects.
 use Rattle.std.specs.Prelude.{ℕ, ◌+◌, ◌-◌, ◌<◌, ◌≤◌, List, length, get_or}
-use Rattle.verbs_model.specs.declared.declaration.Lines.{Lines}
-use Rattle.verbs_model.specs.declared.declaration.TheConstants.{FIRST_QP}
+use Rattle.verbs_types.specs.declared.declaration.Lines.{Lines}
+use Rattle.verbs_types.specs.declared.declaration.TheConstants.{FIRST_QP}
 use Rattle.actor_map.specs.declared.kind.ObjectKind.{ObjectKind}
 use Rattle.actor_map.specs.declared.kind.ObjectKind.TheVariants.{Eq, Cq, Qp}
 use Rattle.actor_map.specs.declared.sizes.TheConstants.{FIRST_OBJECT}

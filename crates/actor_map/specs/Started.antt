@@ -1,10 +1,10 @@
 -- Where the start words of each object stand.
 use Rattle.std.specs.Prelude.{ℕ, ◌≡◌, ◌+◌, ◌*◌, ◌%◌, ◌^◌, ◌<◌, length, get_or, slice_index}
-use Rattle.verbs_model.specs.declared.declaration.EqLine.{EqLine}
-use Rattle.verbs_model.specs.declared.declaration.CqLine.{CqLine}
-use Rattle.verbs_model.specs.declared.declaration.QpLine.{QpLine}
-use Rattle.verbs_model.specs.declared.declaration.Lines.{Lines}
-use Rattle.verbs_model.specs.declared.declaration.TheConstants.{FIRST_QP}
+use Rattle.verbs_types.specs.declared.declaration.EqLine.{EqLine}
+use Rattle.verbs_types.specs.declared.declaration.CqLine.{CqLine}
+use Rattle.verbs_types.specs.declared.declaration.QpLine.{QpLine}
+use Rattle.verbs_types.specs.declared.declaration.Lines.{Lines}
+use Rattle.verbs_types.specs.declared.declaration.TheConstants.{FIRST_QP}
 use Rattle.actor_map.specs.declared.kind.ObjectKind.TheVariants.{Eq, Cq, Qp}
 use Rattle.actor_map.specs.Map.{first_word, map_of}
 use Rattle.actor_map.specs.Sizes.{eq_words, cq_words, qp_words, receive_words, send_words}

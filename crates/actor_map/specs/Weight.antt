@@ -1,15 +1,15 @@
 -- The weight of a scenario, which bounds how long its run may become.
 use Rattle.std.specs.Prelude.{ℕ, ◌+◌, ◌-◌, ◌*◌, ◌^◌, min, List, length}
 use Rattle.std.specs.List.{sum_by}
-use Rattle.verbs_model.specs.declared.request.Sge.{Sge}
-use Rattle.verbs_model.specs.declared.request.Body.{Body}
-use Rattle.verbs_model.specs.declared.request.Body.TheVariants.{Sges, Inline}
-use Rattle.verbs_model.specs.declared.request.Op.{Op}
-use Rattle.verbs_model.specs.declared.request.Op.TheVariants.{Cas, Faa}
-use Rattle.verbs_model.specs.declared.request.Request.{Request}
-use Rattle.verbs_model.specs.declared.call.Call.{Call}
-use Rattle.verbs_model.specs.declared.call.Call.TheVariants.{Post, Recv, Poll, Drain}
-use Rattle.verbs_model.specs.declared.declaration.Lines.{Lines}
+use Rattle.verbs_types.specs.declared.request.Sge.{Sge}
+use Rattle.verbs_types.specs.declared.request.Body.{Body}
+use Rattle.verbs_types.specs.declared.request.Body.TheVariants.{Sges, Inline}
+use Rattle.verbs_types.specs.declared.request.Op.{Op}
+use Rattle.verbs_types.specs.declared.request.Op.TheVariants.{Cas, Faa}
+use Rattle.verbs_types.specs.declared.request.Request.{Request}
+use Rattle.verbs_types.specs.declared.call.Call.{Call}
+use Rattle.verbs_types.specs.declared.call.Call.TheVariants.{Post, Recv, Poll, Drain}
+use Rattle.verbs_types.specs.declared.declaration.Lines.{Lines}
 
 -- how many bytes a body has
 abbrev pub body_length : Body → ℕ

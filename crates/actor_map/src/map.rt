@@ -10,7 +10,7 @@ use crate::sizes::{FIRST_OBJECT, words};
 use std::alloc::{AllocFailed, Global};
 use std::marker::Model;
 use thiserror::Error;
-use verbs_model::{Declared, FIRST_QP};
+use verbs_types::{Declared, FIRST_QP};
 
 /// The most words that a map may have.
 const MAX_WORDS: u64 = 1 << 20;

@@ -7,7 +7,7 @@ ghost use Rattle.actor_map.specs.Sizes as sizes;
 
 use crate::sizes::{cq_words, eq_words, qp_words};
 use std::alloc::AllocFailed;
-use verbs_model::{CqLine, EqLine, QpLine};
+use verbs_types::{CqLine, EqLine, QpLine};
 
 /// The objects placed so far.
 #[derive(Drop)]

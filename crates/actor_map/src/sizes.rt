@@ -4,7 +4,7 @@ ghost use Rattle.std.specs.List.{sum_by};
 ghost use Rattle.actor_map.specs.Sizes as sizes;
 ghost use Rattle.actor_map.specs.Limits.{IsEqSize, IsCqSize, IsQpSize};
 
-use verbs_model::{CqLine, Declared, EqLine, QpLine};
+use verbs_types::{CqLine, Declared, EqLine, QpLine};
 
 /// The first word of the first object. Before it stand the start word, the words of actors that end, the
 /// initialisation segment, and the command queue with its mailbox blocks.

@@ -8,7 +8,7 @@ ghost use Rattle.actor_map.specs.Start as start;
 
 use crate::sizes::{FIRST_OBJECT, places, receive_words, send_words};
 use bus_core::PlainBus;
-use verbs_model::{CqLine, Declared, EqLine, QpLine};
+use verbs_types::{CqLine, Declared, EqLine, QpLine};
 
 /// Word 7 of an event queue's entry that was never written: the owner bit is 1.
 const UNWRITTEN_EVENT: u64 = 1;

@@ -3,7 +3,7 @@ ghost use Rattle.std.specs.Prelude.{◌≡◌};
 ghost use Rattle.std.specs.List.{sum_by};
 ghost use Rattle.actor_map.specs.Weight as weights;
 
-use verbs_model::{Body, Call, Declared, Op, Request, Sequence, Sge};
+use verbs_types::{Body, Call, Declared, Op, Request, Sequence, Sge};
 
 /// For each declared object.
 const OBJECT: u64 = 8;

@@ -5,21 +5,21 @@ use Rattle.std.specs.Option.{option_map_or}
 use Rattle.std.proofs.lemmas.Bool.{false≢true}
 use Rattle.std.proofs.lemmas.List.{get_or_append_left}
 use Rattle.std.proofs.lemmas.Option.{slice_get-get_or, get_or_from_slice_get}
-use Rattle.verbs_model.specs.declared.call.Call.{Call}
-use Rattle.verbs_model.specs.declared.completion.Queue.TheVariants.{Send}
-use Rattle.verbs_model.specs.declared.declaration.Lines.{Lines}
-use Rattle.verbs_model.specs.declared.declaration.QpLine.{QpLine}
-use Rattle.verbs_model.specs.declared.declaration.TheConstants.{FIRST_QP}
-use Rattle.verbs_model.specs.declared.request.Item.{Item}
-use Rattle.verbs_model.specs.declared.request.Item.TheVariants.{Request as TheRequest, Receive as TheReceive}
-use Rattle.verbs_model.specs.declared.request.Op.TheVariants.{Nop}
-use Rattle.verbs_model.specs.declared.request.Request.{Request}
-use Rattle.verbs_model.specs.declared.state.QpState.TheVariants.{Reset, Rts}
-use Rattle.verbs_model.specs.Lines.{is_among}
-use Rattle.verbs_model.specs.Proper.{IsNop}
-use Rattle.verbs_model.specs.Rows.{nop_completion, works}
-use Rattle.verbs_model.specs.Start.{start_pair, no_pair, is_connected}
-use Rattle.verbs_model.specs.State.{Verbs}
+use Rattle.verbs_types.specs.declared.call.Call.{Call}
+use Rattle.verbs_types.specs.declared.completion.Queue.TheVariants.{Send}
+use Rattle.verbs_types.specs.declared.declaration.Lines.{Lines}
+use Rattle.verbs_types.specs.declared.declaration.QpLine.{QpLine}
+use Rattle.verbs_types.specs.declared.declaration.TheConstants.{FIRST_QP}
+use Rattle.verbs_types.specs.declared.request.Item.{Item}
+use Rattle.verbs_types.specs.declared.request.Item.TheVariants.{Request as TheRequest, Receive as TheReceive}
+use Rattle.verbs_types.specs.declared.request.Op.TheVariants.{Nop}
+use Rattle.verbs_types.specs.declared.request.Request.{Request}
+use Rattle.verbs_types.specs.declared.state.QpState.TheVariants.{Reset, Rts}
+use Rattle.verbs_types.specs.Lines.{is_among}
+use Rattle.verbs_rules.specs.Proper.{IsNop}
+use Rattle.verbs_rules.specs.Rows.{nop_completion, works}
+use Rattle.verbs_rules.specs.Start.{start_pair, no_pair, is_connected}
+use Rattle.verbs_rules.specs.State.{Verbs}
 use Rattle.counted_ring.specs.Queue as counted
 use Rattle.object_places.specs.Places.{send_of}
 use Rattle.provider_poll.specs.Completion.{completion_of}

@@ -3,25 +3,25 @@ use Rattle.std.proofs.Common.{◌≡◌, ◌≢◌, ℕ, ◌+◌, ◌-◌, ◌<�
 use Rattle.std.proofs.lemmas.Option.{get_or_from_slice_get}
 use Rattle.bus_core.specs.declared.operation.BusEntry.{BusEntry}
 use Rattle.bus_core.specs.Trace.{Memory, after_entry}
-use Rattle.verbs_model.specs.declared.call.Call.{Call}
-use Rattle.verbs_model.specs.declared.completion.Queue.{Queue}
-use Rattle.verbs_model.specs.declared.completion.Queue.TheVariants.{Send}
-use Rattle.verbs_model.specs.declared.declaration.Lines.{Lines}
-use Rattle.verbs_model.specs.declared.entry.What.TheVariants.{Fetch}
-use Rattle.verbs_model.specs.declared.request.Op.TheVariants.{Nop}
-use Rattle.verbs_model.specs.declared.request.Request.{Request}
-use Rattle.verbs_model.specs.declared.state.Act.{Act}
-use Rattle.verbs_model.specs.declared.state.Act.TheVariants.{Complete}
-use Rattle.verbs_model.specs.declared.state.QpState.TheVariants.{Rts}
-use Rattle.verbs_model.specs.declared.state.QueuePair.{QueuePair}
-use Rattle.verbs_model.specs.declared.state.Unpolled.{Unpolled}
-use Rattle.verbs_model.specs.Answered.{Due}
-use Rattle.verbs_model.specs.Family.{put}
-use Rattle.verbs_model.specs.Rows as rows
-use Rattle.verbs_model.specs.Rows.{nop_completion}
-use Rattle.verbs_model.specs.Same.{same_queue}
-use Rattle.verbs_model.specs.State.{Verbs, WorkQueue}
-use Rattle.verbs_model.specs.Step.{after}
+use Rattle.verbs_types.specs.declared.call.Call.{Call}
+use Rattle.verbs_types.specs.declared.completion.Queue.{Queue}
+use Rattle.verbs_types.specs.declared.completion.Queue.TheVariants.{Send}
+use Rattle.verbs_types.specs.declared.declaration.Lines.{Lines}
+use Rattle.verbs_types.specs.declared.entry.What.TheVariants.{Fetch}
+use Rattle.verbs_types.specs.declared.request.Op.TheVariants.{Nop}
+use Rattle.verbs_types.specs.declared.request.Request.{Request}
+use Rattle.verbs_types.specs.declared.state.Act.{Act}
+use Rattle.verbs_types.specs.declared.state.Act.TheVariants.{Complete}
+use Rattle.verbs_types.specs.declared.state.QpState.TheVariants.{Rts}
+use Rattle.verbs_types.specs.declared.state.QueuePair.{QueuePair}
+use Rattle.verbs_types.specs.declared.state.Unpolled.{Unpolled}
+use Rattle.verbs_rules.specs.Answered.{Due}
+use Rattle.verbs_rules.specs.Family.{put}
+use Rattle.verbs_rules.specs.Rows as rows
+use Rattle.verbs_rules.specs.Rows.{nop_completion}
+use Rattle.verbs_rules.specs.Same.{same_queue}
+use Rattle.verbs_rules.specs.State.{Verbs, WorkQueue}
+use Rattle.verbs_rules.specs.Step.{after}
 use Rattle.cq_pair.specs.Queue.{since}
 use Rattle.counted_ring.specs.declared.place.WqPlace.{WqPlace}
 use Rattle.counted_ring.specs.Device.{WqReader}
@@ -37,22 +37,22 @@ use Rattle.device_engine.specs.Rows.{publish_or_next}
 use Rattle.device_engine.specs.State.{AdapterRule, Publishing, reader, send_cq, next_visit, working, with_reader, with_taken, put_number}
 use Rattle.actor_rules.specs.Actors.{Actors}
 use Rattle.actor_rules.specs.Owners.{poller_of}
-use Rattle.verbs_model.specs.Sane as sane
+use Rattle.verbs_rules.specs.Sane as sane
 use Rattle.actor_rules.proofs.Adapter.{Reads}
 use Rattle.actor_rules.proofs.AdapterEntries.{IsPosted, posted_at, wants_posted, sends_rts, nop_at}
 use Rattle.actor_rules.proofs.AdapterKeeps.{Bare, with_adapter, finish, to_next}
 use Rattle.actor_rules.proofs.AdapterLooks.{OneQueue, reader_moves}
 use Rattle.actor_rules.proofs.AdapterQueues.{Takes, queue_takes, completions_gain}
-use Rattle.verbs_model.proofs.Choices.{either}
+use Rattle.verbs_laws.proofs.Choices.{either}
 use Rattle.actor_rules.proofs.Completions.{CompletionsStand, IsCompletion}
-use Rattle.verbs_model.proofs.GoesAdapter.{owed_by, fetch_goes, is_fetched}
+use Rattle.verbs_laws.proofs.GoesAdapter.{owed_by, fetch_goes, is_fetched}
 use Rattle.actor_rules.proofs.Growing.{Grows, grows_same, grows_event}
 use Rattle.actor_rules.proofs.Holding.{Stands, IsMapped}
 use Rattle.actor_rules.proofs.Objects.{Lists, poll_side, poster_side, retirer_side}
 use Rattle.actor_rules.proofs.PerQueue.{either_queue, queue_here, queue_there}
 use Rattle.actor_rules.proofs.Queues.{QueueStands}
 use Rattle.actor_rules.proofs.Threading.{put_here, put_there}
-use Rattle.verbs_model.specs.Sane.{Bounds}
+use Rattle.verbs_rules.specs.Sane.{Bounds}
 
 module _ (d : Lines) (programs : List (List Call)) (total : Bounds) (map : IsMapped d) (m : Memory) (w : Actors) (v : Verbs) (dues : List (List Due)) (st : Stands d programs total m w v dues) where
   abbrev qp : ℕ

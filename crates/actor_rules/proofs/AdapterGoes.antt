@@ -6,13 +6,13 @@ use Rattle.bus_core.specs.declared.operation.BusEntry.{BusEntry}
 use Rattle.bus_core.specs.Mark.{Marked}
 use Rattle.bus_core.specs.Operation.{loaded}
 use Rattle.bus_core.specs.Trace.{Memory, Tells, after_entry}
-use Rattle.verbs_model.specs.declared.call.Call.{Call}
-use Rattle.verbs_model.specs.declared.completion.Queue.TheVariants.{Send}
-use Rattle.verbs_model.specs.declared.declaration.Lines.{Lines}
-use Rattle.verbs_model.specs.declared.entry.What.{What}
-use Rattle.verbs_model.specs.declared.entry.What.TheVariants.{Fetch, Publish}
-use Rattle.verbs_model.specs.Step.{MayStep, after}
-use Rattle.verbs_model.specs.Turned.{Running}
+use Rattle.verbs_types.specs.declared.call.Call.{Call}
+use Rattle.verbs_types.specs.declared.completion.Queue.TheVariants.{Send}
+use Rattle.verbs_types.specs.declared.declaration.Lines.{Lines}
+use Rattle.verbs_types.specs.declared.entry.What.{What}
+use Rattle.verbs_types.specs.declared.entry.What.TheVariants.{Fetch, Publish}
+use Rattle.verbs_rules.specs.Step.{MayStep, after}
+use Rattle.verbs_rules.specs.Running.{Running}
 use Rattle.cqe_format.specs.declared.completion.Cqe.{Cqe}
 use Rattle.owner_ring.specs.Place as ring_place
 use Rattle.owner_ring.specs.Ring.{RingEvent}
@@ -49,7 +49,7 @@ use Rattle.actor_rules.proofs.AdapterLooks.{looks, records, reads_on, ends, fine
 use Rattle.actor_rules.proofs.AdapterPublishes as publishes
 use Rattle.actor_rules.proofs.Holding.{Holds, Stands, Goes, IsMapped}
 use Rattle.actor_rules.proofs.Objects.{poll_side, poster_side, retirer_side}
-use Rattle.verbs_model.specs.Sane.{Bounds}
+use Rattle.verbs_rules.specs.Sane.{Bounds}
 
 module _ (d : Lines) (programs : List (List Call)) (total : Bounds) (map : IsMapped d) (m : Memory) (w : Actors) (r : Running) (h : Holds d programs total m w r) (e : BusEntry) (tells : Tells m e) where
   abbrev st : Stands d programs total m w r.verbs h.dues

@@ -2,16 +2,16 @@
 use Rattle.std.proofs.Common.{◌≡◌, ℕ, suc, ◌+◌, ◌<◌, ◌==◌, Bool, true, false, if◌then◌else◌, nat_lt, List, [], length, refl, sym, subst}
 use Rattle.std.proofs.lemmas.Bool.{eqb-true, and_parts, ltb-true}
 use Rattle.bus_core.specs.Trace.{Memory}
-use Rattle.verbs_model.specs.declared.call.Call.{Call}
-use Rattle.verbs_model.specs.declared.completion.Queue.{Queue}
-use Rattle.verbs_model.specs.declared.completion.Queue.TheVariants.{Send}
-use Rattle.verbs_model.specs.declared.declaration.Lines.{Lines}
-use Rattle.verbs_model.specs.declared.declaration.TheConstants.{FIRST_QP}
-use Rattle.verbs_model.specs.declared.entry.What.{What}
-use Rattle.verbs_model.specs.Answered.{Due, after_answer}
-use Rattle.verbs_model.specs.Family.{put}
-use Rattle.verbs_model.specs.Lines.{is_among}
-use Rattle.verbs_model.specs.State.{Verbs}
+use Rattle.verbs_types.specs.declared.call.Call.{Call}
+use Rattle.verbs_types.specs.declared.completion.Queue.{Queue}
+use Rattle.verbs_types.specs.declared.completion.Queue.TheVariants.{Send}
+use Rattle.verbs_types.specs.declared.declaration.Lines.{Lines}
+use Rattle.verbs_types.specs.declared.declaration.TheConstants.{FIRST_QP}
+use Rattle.verbs_types.specs.declared.entry.What.{What}
+use Rattle.verbs_rules.specs.Answered.{Due, after_answer}
+use Rattle.verbs_rules.specs.Family.{put}
+use Rattle.verbs_types.specs.Lines.{is_among}
+use Rattle.verbs_rules.specs.State.{Verbs}
 use Rattle.counted_ring.specs.Device.{WqReader}
 use Rattle.counted_ring.specs.Queue as counted
 use Rattle.object_places.specs.Objects.{Object, Completions, Sends, Receives, Lives}
@@ -20,7 +20,7 @@ use Rattle.device_engine.specs.Rows.{is_ready, read_or_next}
 use Rattle.actor_rules.specs.Owners.{poller_of}
 use Rattle.actor_rules.specs.Actors.{Actors}
 use Rattle.actor_rules.specs.Dues.{dues_at}
-use Rattle.verbs_model.specs.Sane.{Bounds, Sane}
+use Rattle.verbs_rules.specs.Sane.{Bounds, Sane}
 use Rattle.actor_rules.proofs.Adapter.{AdapterStandsAt}
 use Rattle.actor_rules.proofs.Completions.{CompletionsStand}
 use Rattle.actor_rules.proofs.Families.{put_same}

@@ -3,21 +3,21 @@ use Rattle.std.proofs.Common.{◌≡◌, ◌≢◌, ℕ, ◌+◌, ◌-◌, ◌<�
 use Rattle.std.proofs.lemmas.Option.{slice_get-get_or}
 use Rattle.bus_core.specs.declared.operation.BusEntry.{BusEntry}
 use Rattle.bus_core.specs.Trace.{Memory, after_entry}
-use Rattle.verbs_model.specs.declared.call.Call.{Call}
-use Rattle.verbs_model.specs.declared.completion.Completion.{Completion}
-use Rattle.verbs_model.specs.declared.completion.Queue.{Queue}
-use Rattle.verbs_model.specs.declared.completion.Queue.TheVariants.{Send, Recv}
-use Rattle.verbs_model.specs.declared.declaration.Lines.{Lines}
-use Rattle.verbs_model.specs.declared.entry.What.TheVariants.{Publish}
-use Rattle.verbs_model.specs.declared.request.Item.{Item}
-use Rattle.verbs_model.specs.declared.state.Act.{Act}
-use Rattle.verbs_model.specs.declared.state.Act.TheVariants.{Complete}
-use Rattle.verbs_model.specs.declared.state.QueuePair.{QueuePair}
-use Rattle.verbs_model.specs.declared.state.Unpolled.{Unpolled}
-use Rattle.verbs_model.specs.Answered.{Due}
-use Rattle.verbs_model.specs.Rows.{publish}
-use Rattle.verbs_model.specs.State.{Verbs, CompletionQueue}
-use Rattle.verbs_model.specs.Step.{after}
+use Rattle.verbs_types.specs.declared.call.Call.{Call}
+use Rattle.verbs_types.specs.declared.completion.Completion.{Completion}
+use Rattle.verbs_types.specs.declared.completion.Queue.{Queue}
+use Rattle.verbs_types.specs.declared.completion.Queue.TheVariants.{Send, Recv}
+use Rattle.verbs_types.specs.declared.declaration.Lines.{Lines}
+use Rattle.verbs_types.specs.declared.entry.What.TheVariants.{Publish}
+use Rattle.verbs_types.specs.declared.request.Item.{Item}
+use Rattle.verbs_types.specs.declared.state.Act.{Act}
+use Rattle.verbs_types.specs.declared.state.Act.TheVariants.{Complete}
+use Rattle.verbs_types.specs.declared.state.QueuePair.{QueuePair}
+use Rattle.verbs_types.specs.declared.state.Unpolled.{Unpolled}
+use Rattle.verbs_rules.specs.Answered.{Due}
+use Rattle.verbs_rules.specs.Rows.{publish}
+use Rattle.verbs_rules.specs.State.{Verbs, CompletionQueue}
+use Rattle.verbs_rules.specs.Step.{after}
 use Rattle.cqe_format.specs.declared.completion.Cqe.{Cqe}
 use Rattle.owner_ring.specs.Consumer.{Consumer}
 use Rattle.owner_ring.specs.Place as ring_place
@@ -38,22 +38,22 @@ use Rattle.provider_poll.specs.Completion.{completion_of}
 use Rattle.device_engine.specs.State.{AdapterAt, AdapterRule, Publishing, next_visit, with_queue, put_number}
 use Rattle.actor_rules.specs.Actors.{Actors, id_in}
 use Rattle.actor_rules.specs.Owners.{poller_of}
-use Rattle.verbs_model.specs.Sane as sane
+use Rattle.verbs_rules.specs.Sane as sane
 use Rattle.actor_rules.proofs.Adapter.{AdapterStandsAt, Owes}
 use Rattle.actor_rules.proofs.AdapterEntries.{IsPosted, completion_is, posted_at, id_posted}
 use Rattle.actor_rules.proofs.AdapterKeeps.{Bare, with_adapter, at_visit, finish, to_next}
 use Rattle.actor_rules.proofs.AdapterLooks.{bare_quiet}
 use Rattle.actor_rules.proofs.AdapterQueues.{Gains, completions_gain}
-use Rattle.verbs_model.proofs.Choices.{either}
+use Rattle.verbs_laws.proofs.Choices.{either}
 use Rattle.actor_rules.proofs.Completions.{CompletionsStand}
 use Rattle.actor_rules.proofs.Frame.{AllTied, SameAt, frame}
-use Rattle.verbs_model.proofs.GoesAdapter.{publish_goes, publish_room}
+use Rattle.verbs_laws.proofs.GoesAdapter.{publish_goes, publish_room}
 use Rattle.actor_rules.proofs.Growing.{completion_kept, grows_same}
 use Rattle.actor_rules.proofs.Holding.{Stands, IsMapped}
 use Rattle.actor_rules.proofs.Objects.{Lists, poll_side}
 use Rattle.actor_rules.proofs.Queues.{QueueStands}
 use Rattle.actor_rules.proofs.Threading.{put_here, put_there}
-use Rattle.verbs_model.specs.Sane.{Bounds}
+use Rattle.verbs_rules.specs.Sane.{Bounds}
 
 module _ (d : Lines) (programs : List (List Call)) (total : Bounds) (map : IsMapped d) (m : Memory) (w : Actors) (v : Verbs) (dues : List (List Due)) (st : Stands d programs total m w v dues) (cq : ℕ) (c : Cqe) (o : Owes d st.lists v w.adapter cq c) where
   abbrev qp : ℕ

@@ -1,12 +1,12 @@
 -- What ties a completion queue of words, and the poll that is under way, to the abstract state.
 use Rattle.std.proofs.Common.{◌≡◌, ℕ, ◌+◌, ◌-◌, ◌<◌, ◌≤◌, ◌==◌, Bool, true, false, List, [], ◌∷◌, length, map, take, slice_get, filter, position, Option, None, Some, if◌then◌else◌}
 use Rattle.std.specs.List.{AllByRecursion}
-use Rattle.verbs_model.specs.declared.completion.Completion.{Completion}
-use Rattle.verbs_model.specs.declared.completion.Queue.TheVariants.{Send}
-use Rattle.verbs_model.specs.declared.declaration.Lines.{Lines}
-use Rattle.verbs_model.specs.declared.state.Unpolled.{Unpolled}
-use Rattle.verbs_model.specs.Rows.{nop_completion}
-use Rattle.verbs_model.specs.State.{Verbs, CompletionQueue}
+use Rattle.verbs_types.specs.declared.completion.Completion.{Completion}
+use Rattle.verbs_types.specs.declared.completion.Queue.TheVariants.{Send}
+use Rattle.verbs_types.specs.declared.declaration.Lines.{Lines}
+use Rattle.verbs_types.specs.declared.state.Unpolled.{Unpolled}
+use Rattle.verbs_rules.specs.Rows.{nop_completion}
+use Rattle.verbs_rules.specs.State.{Verbs, CompletionQueue}
 use Rattle.cqe_format.specs.declared.completion.Cqe.{Cqe}
 use Rattle.owner_ring.specs.Place.{size}
 use Rattle.owner_ring.specs.Consumer.{Consumer, Waiting, Reading, next_index}

@@ -5,9 +5,9 @@ use Rattle.std.proofs.lemmas.List.{get_or-set_same, get_or-set_other}
 use mathlib.Core.Path.{fun_ext}
 use Rattle.std.specs.List.{sum_by, fold}
 use Rattle.std.proofs.lemmas.List.Sums.{sum_by-set}
-use Rattle.verbs_model.specs.Family.{put}
-use Rattle.verbs_model.specs.Answered.{Due}
-use Rattle.verbs_model.specs.Proper.{over_dues}
+use Rattle.verbs_rules.specs.Family.{put}
+use Rattle.verbs_rules.specs.Answered.{Due}
+use Rattle.verbs_rules.specs.Proper.{over_dues}
 use Rattle.actor_rules.specs.Dues.{dues_at}
 
 at_suc : (dues : List (List Due)) (t j : ℕ) (ds : List Due) → t < length dues → (b : Bool) → (suc j == suc t) ≡ b → slice_index_or (slice_set dues t ds) j [] ≡ (if b then ds else slice_index_or dues j [])

@@ -4,16 +4,16 @@ use Rattle.std.proofs.lemmas.Bool.{both_ways}
 use Rattle.bus_core.specs.Mark.{Marked}
 use Rattle.bus_core.specs.Trace.{Memory, Tells, after_entry}
 use Rattle.bus_core.proofs.Words.{elsewhere}
-use Rattle.verbs_model.specs.declared.call.Call.{Call}
-use Rattle.verbs_model.specs.declared.call.Call.TheVariants.{Post, Recv, Poll, Drain}
-use Rattle.verbs_model.specs.declared.completion.Completion.{Completion}
-use Rattle.verbs_model.specs.declared.completion.Queue.{Queue}
-use Rattle.verbs_model.specs.declared.completion.Queue.TheVariants.{Send, Recv as Receiving}
-use Rattle.verbs_model.specs.declared.declaration.Lines.{Lines}
-use Rattle.verbs_model.specs.declared.request.Item.{Item}
-use Rattle.verbs_model.specs.Answered.{Due}
-use Rattle.verbs_model.specs.State.{Verbs}
-use Rattle.verbs_model.specs.Turned.{Running}
+use Rattle.verbs_types.specs.declared.call.Call.{Call}
+use Rattle.verbs_types.specs.declared.call.Call.TheVariants.{Post, Recv, Poll, Drain}
+use Rattle.verbs_types.specs.declared.completion.Completion.{Completion}
+use Rattle.verbs_types.specs.declared.completion.Queue.{Queue}
+use Rattle.verbs_types.specs.declared.completion.Queue.TheVariants.{Send, Recv as Receiving}
+use Rattle.verbs_types.specs.declared.declaration.Lines.{Lines}
+use Rattle.verbs_types.specs.declared.request.Item.{Item}
+use Rattle.verbs_rules.specs.Answered.{Due}
+use Rattle.verbs_rules.specs.State.{Verbs}
+use Rattle.verbs_rules.specs.Running.{Running}
 use Rattle.counted_ring.specs.Queue as counted
 use Rattle.object_places.specs.declared.ended.TheConstants.{ENDED_WORD}
 use Rattle.object_places.specs.Objects.{Object, Mark, Completions, Sends, Receives, Lives, touches}
@@ -34,7 +34,7 @@ use Rattle.actor_rules.proofs.Completions.{CompletionsStand}
 use Rattle.actor_rules.proofs.Threads.{StandsAt, ThreadStands}
 use Rattle.actor_rules.proofs.Holding.{Holds, Stands, Goes, IsMapped}
 use Rattle.actor_rules.proofs.Threading.{put_keeps, put_all}
-use Rattle.verbs_model.specs.Sane.{Bounds}
+use Rattle.verbs_rules.specs.Sane.{Bounds}
 
 -- a thread that has ended stands as before
 stands_ended : (t : Thread) (calls : List Call) → StandsAt t calls → StandsAt (ended t) calls

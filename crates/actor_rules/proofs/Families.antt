@@ -1,7 +1,7 @@
 -- Values by a key, one of which is changed twice or to what it was.
 use Rattle.std.proofs.Common.{◌≡◌, Bool, true, false, if◌then◌else◌, refl, sym, ◌∙◌, ap}
 use mathlib.Core.Path.{fun_ext}
-use Rattle.verbs_model.specs.Family.{put}
+use Rattle.verbs_rules.specs.Family.{put}
 
 twice : {V : Type 0} (b : Bool) (x y z : V) → (if b then x else (if b then y else z)) ≡ (if b then x else z)
 twice true x y z = refl

@@ -5,9 +5,9 @@ use Rattle.bus_core.specs.declared.operation.BusEntry.{BusEntry}
 use Rattle.bus_core.specs.declared.operation.BusOp.TheVariants.{Load}
 use Rattle.bus_core.specs.Trace.{Memory, after_entry}
 use Rattle.bus_core.proofs.Words.{apart_kept, load_keeps}
-use Rattle.verbs_model.specs.declared.call.Call.{Call}
-use Rattle.verbs_model.specs.declared.completion.Queue.TheVariants.{Send, Recv}
-use Rattle.verbs_model.specs.declared.declaration.Lines.{Lines}
+use Rattle.verbs_types.specs.declared.call.Call.{Call}
+use Rattle.verbs_types.specs.declared.completion.Queue.TheVariants.{Send, Recv}
+use Rattle.verbs_types.specs.declared.declaration.Lines.{Lines}
 use Rattle.owner_ring.specs.Consumer.{Consumer}
 use Rattle.cq_pair.specs.Device.{QueueDevice}
 use Rattle.cq_pair.specs.Queue.{PlainQueue}

@@ -1,9 +1,9 @@
 -- What stays of the requests of a queue while it grows.
 use Rattle.std.proofs.Common.{◌≡◌, ℕ, ◌<◌, ◌≤◌, ◌-◌, refl, sym, ap, ◌∙◌, subst, arith, Bool, true, false, List, length}
-use Rattle.verbs_model.specs.declared.completion.Completion.{Completion}
-use Rattle.verbs_model.specs.declared.completion.Queue.TheVariants.{Send}
-use Rattle.verbs_model.specs.declared.state.Unpolled.{Unpolled}
-use Rattle.verbs_model.specs.Rows.{nop_completion}
+use Rattle.verbs_types.specs.declared.completion.Completion.{Completion}
+use Rattle.verbs_types.specs.declared.completion.Queue.TheVariants.{Send}
+use Rattle.verbs_types.specs.declared.state.Unpolled.{Unpolled}
+use Rattle.verbs_rules.specs.Rows.{nop_completion}
 use Rattle.cqe_format.specs.declared.completion.Cqe.{Cqe}
 use Rattle.counted_ring.specs.declared.place.WqPlace.{WqPlace}
 use Rattle.counted_ring.specs.Queue.{Queue, Request, WqEvent, Wrote, Full, Rang, Named, Found, Retired, Counted, Took, index_of, after_event, after_count}

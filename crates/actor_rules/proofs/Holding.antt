@@ -2,23 +2,23 @@
 use Rattle.std.proofs.Common.{◌≡◌, ℕ, zero, suc, List, length, IsTrue, Option, None, Some}
 use Rattle.bus_core.specs.Mark.{Marked}
 use Rattle.bus_core.specs.Trace.{Memory, Tells, after_entry}
-use Rattle.verbs_model.specs.declared.call.Call.{Call}
-use Rattle.verbs_model.specs.declared.completion.Queue.{Queue}
-use Rattle.verbs_model.specs.declared.declaration.Lines.{Lines}
-use Rattle.verbs_model.specs.declared.declaration.TheConstants.{FIRST_QP}
-use Rattle.verbs_model.specs.declared.entry.Entry.{Entry}
-use Rattle.verbs_model.specs.Answered.{Due, MayAnswer}
-use Rattle.verbs_model.specs.Lines.{is_among, is_declared}
-use Rattle.verbs_model.specs.Start.{start_pair}
-use Rattle.verbs_model.specs.State.{Verbs}
-use Rattle.verbs_model.specs.Step.{MayStep}
-use Rattle.verbs_model.specs.Turned.{Running, after_turn}
+use Rattle.verbs_types.specs.declared.call.Call.{Call}
+use Rattle.verbs_types.specs.declared.completion.Queue.{Queue}
+use Rattle.verbs_types.specs.declared.declaration.Lines.{Lines}
+use Rattle.verbs_types.specs.declared.declaration.TheConstants.{FIRST_QP}
+use Rattle.verbs_types.specs.declared.entry.Entry.{Entry}
+use Rattle.verbs_rules.specs.Answered.{Due, MayAnswer}
+use Rattle.verbs_types.specs.Lines.{is_among, is_declared}
+use Rattle.verbs_rules.specs.Start.{start_pair}
+use Rattle.verbs_rules.specs.State.{Verbs}
+use Rattle.verbs_rules.specs.Step.{MayStep}
+use Rattle.verbs_rules.specs.Running.{Running, after_turn}
 use Rattle.object_places.specs.Objects.{Object, Mark, Lives, Completions}
 use Rattle.object_places.specs.Apart.{ArePlaced, AreApart}
 use Rattle.actor_rules.specs.Owners.{poller_of}
 use Rattle.actor_rules.specs.Actors.{Actors, MayAny, after, says}
 use Rattle.actor_rules.specs.Dues.{dues_at}
-use Rattle.verbs_model.specs.Sane.{Bounds, Sane}
+use Rattle.verbs_rules.specs.Sane.{Bounds, Sane}
 use Rattle.actor_rules.proofs.Objects.{Lists, IsTied, poll_side}
 use Rattle.actor_rules.proofs.Queues.{QueueLives, QueueStands}
 use Rattle.actor_rules.proofs.Completions.{CompletionsStand}

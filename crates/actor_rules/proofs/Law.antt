@@ -4,15 +4,15 @@ use Rattle.std.specs.List.{AllByRecursion, flat_map}
 use Rattle.bus_core.specs.Follow.{Follows}
 use Rattle.bus_core.specs.Mark.{Marked}
 use Rattle.bus_core.specs.Trace.{Memory, Tells, after_entry}
-use Rattle.verbs_model.specs.declared.call.Call.{Call}
-use Rattle.verbs_model.specs.declared.call.Call.TheVariants.{Post, Recv, Poll, Drain}
-use Rattle.verbs_model.specs.declared.completion.Queue.TheVariants as queues
-use Rattle.verbs_model.specs.declared.declaration.Lines.{Lines}
-use Rattle.verbs_model.specs.declared.request.Item.TheVariants.{Request as TheRequest, Receive as TheReceive}
-use Rattle.verbs_model.specs.Answered.{Due, MayAnswer, after_answer, due_by, own_entries}
-use Rattle.verbs_model.specs.Sane.{Bounds}
-use Rattle.verbs_model.specs.Start.{start}
-use Rattle.verbs_model.specs.Turned.{Running, after_turn}
+use Rattle.verbs_types.specs.declared.call.Call.{Call}
+use Rattle.verbs_types.specs.declared.call.Call.TheVariants.{Post, Recv, Poll, Drain}
+use Rattle.verbs_types.specs.declared.completion.Queue.TheVariants as queues
+use Rattle.verbs_types.specs.declared.declaration.Lines.{Lines}
+use Rattle.verbs_types.specs.declared.request.Item.TheVariants.{Request as TheRequest, Receive as TheReceive}
+use Rattle.verbs_rules.specs.Answered.{Due, MayAnswer, after_answer, due_by, own_entries}
+use Rattle.verbs_rules.specs.Sane.{Bounds}
+use Rattle.verbs_rules.specs.Start.{start}
+use Rattle.verbs_rules.specs.Running.{Running, after_turn}
 use Rattle.actor_map.specs.Start.{start_words}
 use Rattle.object_places.specs.Apart.{ArePlaced, AreApart, AreAtStart}
 use Rattle.object_places.specs.Objects.{Mark}

@@ -1,10 +1,10 @@
 -- What ties the words of an object, its sides and the queue that it stands for.
 use Rattle.std.proofs.Common.{ℕ, List, slice_index_or}
 use Rattle.bus_core.specs.Trace.{Memory}
-use Rattle.verbs_model.specs.declared.call.Call.{Call}
-use Rattle.verbs_model.specs.declared.completion.Queue.{Queue}
-use Rattle.verbs_model.specs.declared.completion.Queue.TheVariants.{Send, Recv}
-use Rattle.verbs_model.specs.declared.declaration.Lines.{Lines}
+use Rattle.verbs_types.specs.declared.call.Call.{Call}
+use Rattle.verbs_types.specs.declared.completion.Queue.{Queue}
+use Rattle.verbs_types.specs.declared.completion.Queue.TheVariants.{Send, Recv}
+use Rattle.verbs_types.specs.declared.declaration.Lines.{Lines}
 use Rattle.cq_pair.specs.Queue.{PlainQueue}
 use Rattle.cq_pair.proofs.Tied as completions
 use Rattle.counted_ring.specs.Law.{fresh_finder, fresh_device}

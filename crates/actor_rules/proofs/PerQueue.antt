@@ -1,10 +1,10 @@
 -- A value for each work queue, one of which was changed.
 use Rattle.std.proofs.Common.{◌≡◌, ◌≢◌, ◌⊎◌, inl, inr, Bool, true, false, if◌then◌else◌, refl, sym, ◌∙◌, ap}
 use Rattle.std.proofs.lemmas.Bool.{false≢true}
-use Rattle.verbs_model.specs.declared.completion.Queue.{Queue}
-use Rattle.verbs_model.specs.Family.{put}
-use Rattle.verbs_model.specs.Same.{same_queue}
-use Rattle.verbs_model.proofs.Sameness.{same_queue-true, same_queue_refl}
+use Rattle.verbs_types.specs.declared.completion.Queue.{Queue}
+use Rattle.verbs_rules.specs.Family.{put}
+use Rattle.verbs_rules.specs.Same.{same_queue}
+use Rattle.verbs_laws.proofs.Sameness.{same_queue-true, same_queue_refl}
 
 -- one queue is the same as another, or is not
 pub either_queue : (j k : Queue) → (j ≡ k) ⊎ (j ≢ k)

@@ -3,13 +3,13 @@ use Rattle.std.proofs.Common.{◌≡◌, ℕ, refl, sym, ap, ◌∙◌, subst, a
 use Rattle.std.proofs.lemmas.List.{length-drop}
 use Rattle.bus_core.specs.declared.operation.BusEntry.{BusEntry}
 use Rattle.bus_core.specs.Trace.{Memory, after_entry, Tells}
-use Rattle.verbs_model.specs.declared.call.Call.{Call}
-use Rattle.verbs_model.specs.declared.completion.Completion.{Completion}
-use Rattle.verbs_model.specs.declared.declaration.Lines.{Lines}
-use Rattle.verbs_model.specs.declared.entry.What.TheVariants.{Ack}
-use Rattle.verbs_model.specs.declared.state.Unpolled.{Unpolled}
-use Rattle.verbs_model.specs.State.{CompletionQueue, Verbs}
-use Rattle.verbs_model.specs.Step.{after}
+use Rattle.verbs_types.specs.declared.call.Call.{Call}
+use Rattle.verbs_types.specs.declared.completion.Completion.{Completion}
+use Rattle.verbs_types.specs.declared.declaration.Lines.{Lines}
+use Rattle.verbs_types.specs.declared.entry.What.TheVariants.{Ack}
+use Rattle.verbs_types.specs.declared.state.Unpolled.{Unpolled}
+use Rattle.verbs_rules.specs.State.{CompletionQueue, Verbs}
+use Rattle.verbs_rules.specs.Step.{after}
 use Rattle.owner_ring.specs.Place.{size}
 use Rattle.owner_ring.specs.Consumer.{Consumer, next_index}
 use Rattle.owner_ring.proofs.Tied as ring_tied
@@ -28,7 +28,7 @@ use Rattle.object_places.specs.Objects.{OnCompletions}
 use Rattle.object_places.specs.Places.{completions_of}
 use Rattle.provider_poll.specs.declared.state.PollState.TheVariants as states
 use Rattle.provider_poll.specs.Rule.{PollRule, OnHost, MayAcknowledge}
-use Rattle.provider_poll.specs.RuleTurned.{poll_side_turned, after_poll_side}
+use Rattle.provider_poll.specs.RuleStep.{poll_side_step, after_poll_side}
 use Rattle.actor_rules.specs.Thread.{poll_place}
 use Rattle.actor_rules.specs.Polling.{store_says}
 use Rattle.actor_rules.specs.Actors.{Actors}
@@ -123,7 +123,7 @@ module _ (d : Lines) (programs : List (List Call)) (m : Memory) (w : Actors) (t 
           ends = s.ends;
         }
 
-    ends_call : Outcome d programs (after_entry m e) w t cq most l v side given now_is (poll_side_turned (poll_place d cq) side (OnHost mark) e).answer (Some (Ack cq index))
+    ends_call : Outcome d programs (after_entry m e) w t cq most l v side given now_is (poll_side_step (poll_place d cq) side (OnHost mark) e).answer (Some (Ack cq index))
     ends_call = Ends (record {
       taken = taken;
       word = empty;
@@ -144,7 +144,7 @@ module _ (d : Lines) (programs : List (List Call)) (m : Memory) (w : Actors) (t 
     })
 
   pub acknowledges : (sent : QueueMark) → MayAcknowledge (poll_place d cq) side sent e
-      → Outcome d programs (after_entry m e) w t cq most l v side given (after_poll_side (poll_place d cq) side (OnHost sent) e) (poll_side_turned (poll_place d cq) side (OnHost sent) e).answer (store_says (OnCompletions cq sent))
+      → Outcome d programs (after_entry m e) w t cq most l v side given (after_poll_side (poll_place d cq) side (OnHost sent) e) (poll_side_step (poll_place d cq) side (OnHost sent) e).answer (store_says (OnCompletions cq sent))
   acknowledges sent may =
-      subst (λ (k : QueueMark). Outcome d programs (after_entry m e) w t cq most l v side given (after_poll_side (poll_place d cq) side (OnHost k) e) (poll_side_turned (poll_place d cq) side (OnHost k) e).answer (store_says (OnCompletions cq k)))
+      subst (λ (k : QueueMark). Outcome d programs (after_entry m e) w t cq most l v side given (after_poll_side (poll_place d cq) side (OnHost k) e) (poll_side_step (poll_place d cq) side (OnHost k) e).answer (store_says (OnCompletions cq k)))
       (sym may.index) (ends_call (subst (λ (k : QueueMark). MayPoll (completions_of d cq) c k e) may.index may.polls))

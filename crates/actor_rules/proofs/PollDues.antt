@@ -5,20 +5,20 @@ use Rattle.std.proofs.lemmas.Bool.{cases_lt, leb-true, leb-false}
 use Rattle.std.proofs.lemmas.List.{get_or_past, get_or-set_same, get_or-set_other}
 use Rattle.std.proofs.Math.ListN.{length-set}
 use Rattle.bus_core.specs.Trace.{Memory}
-use Rattle.verbs_model.specs.declared.call.Call.{Call}
-use Rattle.verbs_model.specs.declared.call.Call.TheVariants.{Post, Recv, Poll, Drain}
-use Rattle.verbs_model.specs.declared.completion.Completion.{Completion}
-use Rattle.verbs_model.specs.declared.completion.Queue.{Queue}
-use Rattle.verbs_model.specs.declared.completion.Queue.TheVariants as queues
-use Rattle.verbs_model.specs.declared.declaration.Lines.{Lines}
-use Rattle.verbs_model.specs.declared.entry.What.{What}
-use Rattle.verbs_model.specs.declared.request.Item.{Item}
-use Rattle.verbs_model.specs.declared.request.Item.TheVariants.{Request as TheRequest, Receive as TheReceive}
-use Rattle.verbs_model.specs.Answered.{Due, Polling, Draining, Answers, MayAnswer, left_by, after_answer, due_by}
-use Rattle.verbs_model.specs.Family.{put}
-use Rattle.verbs_model.specs.Same.{same_queue}
-use Rattle.verbs_model.specs.Step.{after}
-use Rattle.verbs_model.specs.Turned.{Running}
+use Rattle.verbs_types.specs.declared.call.Call.{Call}
+use Rattle.verbs_types.specs.declared.call.Call.TheVariants.{Post, Recv, Poll, Drain}
+use Rattle.verbs_types.specs.declared.completion.Completion.{Completion}
+use Rattle.verbs_types.specs.declared.completion.Queue.{Queue}
+use Rattle.verbs_types.specs.declared.completion.Queue.TheVariants as queues
+use Rattle.verbs_types.specs.declared.declaration.Lines.{Lines}
+use Rattle.verbs_types.specs.declared.entry.What.{What}
+use Rattle.verbs_types.specs.declared.request.Item.{Item}
+use Rattle.verbs_types.specs.declared.request.Item.TheVariants.{Request as TheRequest, Receive as TheReceive}
+use Rattle.verbs_rules.specs.Answered.{Due, Polling, Draining, Answers, MayAnswer, left_by, after_answer, due_by}
+use Rattle.verbs_rules.specs.Family.{put}
+use Rattle.verbs_rules.specs.Same.{same_queue}
+use Rattle.verbs_rules.specs.Step.{after}
+use Rattle.verbs_rules.specs.Running.{Running}
 use Rattle.provider_post.specs.declared.call.Call as post
 use Rattle.provider_poll.specs.declared.state.PollState.{PollState}
 use Rattle.provider_poll.specs.declared.state.PollState.TheVariants as states
@@ -27,16 +27,16 @@ use Rattle.actor_rules.specs.Thread.{Thread}
 use Rattle.actor_rules.specs.Polling.{drain_left}
 use Rattle.actor_rules.specs.Actors.{Actors, by}
 use Rattle.actor_rules.specs.Dues.{dues_at, is_storing, store_dues, post_dues, poll_dues, drain_dues, call_dues}
-use Rattle.verbs_model.specs.Proper.{Owes, dues_of_thread}
-use Rattle.verbs_model.specs.Sane as sane
-use Rattle.verbs_model.proofs.Choices.{either}
+use Rattle.verbs_rules.specs.Proper.{Owes, dues_of_thread}
+use Rattle.verbs_rules.specs.Sane as sane
+use Rattle.verbs_laws.proofs.Choices.{either}
 use Rattle.actor_rules.proofs.Dues.{dues_at-set}
 use Rattle.actor_rules.proofs.Queues.{accepted, written_by}
 use Rattle.actor_rules.specs.Ready.{IsOwnCall, IsOwnPoll}
 use Rattle.actor_rules.proofs.Threads.{ThreadStands, StandsAt, PollsAt, IsPollFor, IsPostAt, PollsRest, PostersRest}
 use Rattle.actor_rules.proofs.Holding.{Holds, Goes}
 use Rattle.actor_rules.proofs.PollFrame.{put_here, put_there, goes_on, poll_goes_on, Moves, IsPoller, stands_after}
-use Rattle.verbs_model.specs.Sane.{Bounds}
+use Rattle.verbs_rules.specs.Sane.{Bounds}
 
 -- by how far the poll has come, with what is owed after it
 abbrev pub owed_at : Lines → ℕ → Due → List Due → PollState → List Due

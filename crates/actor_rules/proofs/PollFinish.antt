@@ -5,17 +5,17 @@ use Rattle.std.proofs.lemmas.List.{length-map}
 use Rattle.bus_core.specs.declared.turn.Step.{Step}
 use Rattle.bus_core.specs.declared.turn.Step.TheVariants.{More, Done}
 use Rattle.bus_core.specs.Trace.{Memory}
-use Rattle.verbs_model.specs.declared.call.Call.{Call}
-use Rattle.verbs_model.specs.declared.completion.Completion.{Completion}
-use Rattle.verbs_model.specs.declared.completion.Queue.TheVariants.{Send}
-use Rattle.verbs_model.specs.declared.declaration.Lines.{Lines}
-use Rattle.verbs_model.specs.declared.entry.What.{What}
-use Rattle.verbs_model.specs.declared.entry.What.TheVariants.{Poll, Retire, Ack}
-use Rattle.verbs_model.specs.declared.state.Unpolled.{Unpolled}
-use Rattle.verbs_model.specs.Answered.{Due, Retiring, Acking}
-use Rattle.verbs_model.specs.State.{CompletionQueue, Verbs}
-use Rattle.verbs_model.specs.Step.{after}
-use Rattle.verbs_model.specs.Turned.{Running}
+use Rattle.verbs_types.specs.declared.call.Call.{Call}
+use Rattle.verbs_types.specs.declared.completion.Completion.{Completion}
+use Rattle.verbs_types.specs.declared.completion.Queue.TheVariants.{Send}
+use Rattle.verbs_types.specs.declared.declaration.Lines.{Lines}
+use Rattle.verbs_types.specs.declared.entry.What.{What}
+use Rattle.verbs_types.specs.declared.entry.What.TheVariants.{Poll, Retire, Ack}
+use Rattle.verbs_types.specs.declared.state.Unpolled.{Unpolled}
+use Rattle.verbs_rules.specs.Answered.{Due, Retiring, Acking}
+use Rattle.verbs_rules.specs.State.{CompletionQueue, Verbs}
+use Rattle.verbs_rules.specs.Step.{after}
+use Rattle.verbs_rules.specs.Running.{Running}
 use Rattle.provider_poll.specs.declared.answer.PollAnswer.{PollAnswer}
 use Rattle.provider_poll.specs.declared.answer.PollAnswer.TheVariants.{Polled}
 use Rattle.provider_poll.specs.declared.state.PollState.{PollState}
@@ -25,18 +25,18 @@ use Rattle.actor_rules.specs.Thread.{Thread}
 use Rattle.actor_rules.specs.Polling.{given_after, poll_now}
 use Rattle.actor_rules.specs.Actors.{Actors, by, posted_with}
 use Rattle.actor_rules.specs.Dues.{is_storing, store_dues}
-use Rattle.verbs_model.specs.Proper.{dues_of_thread}
-use Rattle.verbs_model.specs.Sane as sane
+use Rattle.verbs_rules.specs.Proper.{dues_of_thread}
+use Rattle.verbs_rules.specs.Sane as sane
 use Rattle.actor_rules.proofs.Families.{put_same}
-use Rattle.verbs_model.proofs.GoesSettle.{ends_owed, retire_goes, ack_goes}
-use Rattle.verbs_model.proofs.Waiting.{completion_in}
+use Rattle.verbs_laws.proofs.GoesSettle.{ends_owed, retire_goes, ack_goes}
+use Rattle.verbs_laws.proofs.Waiting.{completion_in}
 use Rattle.actor_rules.proofs.Threads.{ThreadStands, IsPollFor}
 use Rattle.actor_rules.proofs.Holding.{Holds, Goes}
 use Rattle.actor_rules.proofs.PollFrame.{goes_on, Moves}
 use Rattle.actor_rules.proofs.PollDues.{Job, owed_at, owed_now, owes_from, silent_goes, says_goes, thread_goes_on, thread_ends}
 use Rattle.actor_rules.proofs.PollNow.{begun_owes}
 use Rattle.actor_rules.proofs.PollOutcomes.{Outcome, GoesOn, Takes, Nothing, Stores, Ends, Loads, Tells, FindsNone, Retires, Acknowledges, Speaks}
-use Rattle.verbs_model.specs.Sane.{Bounds}
+use Rattle.verbs_rules.specs.Sane.{Bounds}
 
 abbrev nothing_there : List Unpolled
 nothing_there = []

@@ -6,15 +6,15 @@ use Rattle.bus_core.specs.declared.operation.BusEntry.{BusEntry}
 use Rattle.bus_core.specs.declared.turn.Step.{Step}
 use Rattle.bus_core.specs.declared.turn.Step.TheVariants.{Gave}
 use Rattle.bus_core.specs.Trace.{Memory, after_entry}
-use Rattle.verbs_model.specs.declared.call.Call.{Call}
-use Rattle.verbs_model.specs.declared.completion.Completion.{Completion}
-use Rattle.verbs_model.specs.declared.completion.Queue.TheVariants.{Send}
-use Rattle.verbs_model.specs.declared.declaration.Lines.{Lines}
-use Rattle.verbs_model.specs.declared.entry.What.{What}
-use Rattle.verbs_model.specs.declared.entry.What.TheVariants.{Poll}
-use Rattle.verbs_model.specs.declared.state.Unpolled.{Unpolled}
-use Rattle.verbs_model.specs.Rows.{nop_completion}
-use Rattle.verbs_model.specs.State.{Verbs}
+use Rattle.verbs_types.specs.declared.call.Call.{Call}
+use Rattle.verbs_types.specs.declared.completion.Completion.{Completion}
+use Rattle.verbs_types.specs.declared.completion.Queue.TheVariants.{Send}
+use Rattle.verbs_types.specs.declared.declaration.Lines.{Lines}
+use Rattle.verbs_types.specs.declared.entry.What.{What}
+use Rattle.verbs_types.specs.declared.entry.What.TheVariants.{Poll}
+use Rattle.verbs_types.specs.declared.state.Unpolled.{Unpolled}
+use Rattle.verbs_rules.specs.Rows.{nop_completion}
+use Rattle.verbs_rules.specs.State.{Verbs}
 use Rattle.owner_ring.specs.Consumer.{Consumer}
 use Rattle.cqe_format.specs.declared.completion.Cqe.{Cqe}
 use Rattle.counted_ring.specs.Retirer.{Retirer}
@@ -26,19 +26,19 @@ use Rattle.provider_poll.specs.declared.answer.PollAnswer.{PollAnswer}
 use Rattle.provider_poll.specs.declared.state.End.{End}
 use Rattle.provider_poll.specs.declared.state.PollState.{PollState}
 use Rattle.provider_poll.specs.declared.state.PollState.TheVariants as states
-use Rattle.provider_poll.specs.declared.turned.Turned.{Turned}
+use Rattle.provider_poll.specs.declared.poll_step.PollStep.{PollStep}
 use Rattle.provider_poll.specs.Completion.{completion_of}
 use Rattle.provider_poll.specs.Note.{poll_note}
 use Rattle.provider_poll.specs.Rule.{PollRule}
 use Rattle.provider_poll.specs.Stores.{storing}
-use Rattle.provider_poll.specs.Turned.{with_end}
+use Rattle.provider_poll.specs.PollStep.{with_end}
 use Rattle.actor_rules.specs.Polling.{place_in, given_with, load_says}
 use Rattle.actor_rules.specs.Actors.{Actors}
-use Rattle.verbs_model.proofs.Choices.{either}
+use Rattle.verbs_laws.proofs.Choices.{either}
 use Rattle.actor_rules.proofs.Matching.{Match, match_push, match_at, match_length}
 use Rattle.actor_rules.proofs.Objects.{Lists, poster_side, retirer_in}
 use Rattle.actor_rules.proofs.Completions.{IsEnd, AskedFor}
-use Rattle.verbs_model.proofs.Waiting.{completion_in}
+use Rattle.verbs_laws.proofs.Waiting.{completion_in}
 use Rattle.actor_rules.proofs.PollPlaces.{HasPlace, same_pair, living_by_place}
 use Rattle.actor_rules.proofs.PollFrame.{requests_refl}
 use Rattle.actor_rules.proofs.PollLists.{IsPlaced, all_at, take_next, slice_get-take, match_by, number_after, stores_owed}
@@ -217,13 +217,13 @@ module _ (d : Lines) (programs : List (List Call)) (m : Memory) (w : Actors) (t 
             });
           }))
 
-      abbrev turn_found : Turned
+      abbrev turn_found : PollStep
       turn_found = with_end cq (views d cq rs') most (record { items = es }) seen x_last u.completion
 
       pub on_found : Comes (side_at turn_found.state) turn_found.answer (load_says cq most (given_with given turn_found.answer) turn_found.state)
       on_found = by (nat_lt (length es + 1) most) refl
         where
-          turn_by : Bool → Turned
+          turn_by : Bool → PollStep
           turn_by b = if b then record { state = states.Polling most (record { items = es' }); answer = Gave u.completion; noted = None }
               else record { state = storing (views d cq rs') (length es + 1) None es'; answer = Gave u.completion; noted = Some (poll_note cq most (length es + 1) seen) }
 

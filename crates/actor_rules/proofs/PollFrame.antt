@@ -2,16 +2,16 @@
 use Rattle.std.proofs.Common.{◌≡◌, ◌≢◌, ◌⊎◌, ℕ, suc, inl, inr, refl, sym, ap, ◌∙◌, subst, arith, ◌==◌, ◌≤◌, List, [], ◌++◌, length, Option, None}
 use Rattle.std.proofs.lemmas.Bool.{eq-eqb}
 use Rattle.bus_core.specs.Trace.{Memory}
-use Rattle.verbs_model.specs.declared.call.Call.{Call}
-use Rattle.verbs_model.specs.declared.completion.Completion.{Completion}
-use Rattle.verbs_model.specs.declared.completion.Queue.{Queue}
-use Rattle.verbs_model.specs.declared.completion.Queue.TheVariants.{Send}
-use Rattle.verbs_model.specs.declared.declaration.Lines.{Lines}
-use Rattle.verbs_model.specs.declared.request.Item.{Item}
-use Rattle.verbs_model.specs.declared.state.Unpolled.{Unpolled}
-use Rattle.verbs_model.specs.State.{WorkQueue, CompletionQueue, Verbs}
-use Rattle.verbs_model.specs.Answered.{Due}
-use Rattle.verbs_model.proofs.Families.{put_at, put_beside}
+use Rattle.verbs_types.specs.declared.call.Call.{Call}
+use Rattle.verbs_types.specs.declared.completion.Completion.{Completion}
+use Rattle.verbs_types.specs.declared.completion.Queue.{Queue}
+use Rattle.verbs_types.specs.declared.completion.Queue.TheVariants.{Send}
+use Rattle.verbs_types.specs.declared.declaration.Lines.{Lines}
+use Rattle.verbs_types.specs.declared.request.Item.{Item}
+use Rattle.verbs_types.specs.declared.state.Unpolled.{Unpolled}
+use Rattle.verbs_rules.specs.State.{WorkQueue, CompletionQueue, Verbs}
+use Rattle.verbs_rules.specs.Answered.{Due}
+use Rattle.verbs_laws.proofs.Families.{put_at, put_beside}
 use Rattle.cqe_format.specs.declared.completion.Cqe.{Cqe}
 use Rattle.cq_pair.specs.Queue.{PlainQueue, produced, since}
 use Rattle.counted_ring.specs.Queue.{Request, index_in}
@@ -27,8 +27,8 @@ use Rattle.actor_rules.specs.Owners.{poster_of, poller_of}
 use Rattle.actor_rules.specs.Thread.{Thread}
 use Rattle.actor_rules.specs.Actors.{Actors}
 use Rattle.actor_rules.specs.Dues.{dues_at}
-use Rattle.verbs_model.specs.Sane.{Bounds, Sane}
-use Rattle.verbs_model.proofs.Choices.{either, differs}
+use Rattle.verbs_rules.specs.Sane.{Bounds, Sane}
+use Rattle.verbs_laws.proofs.Choices.{either, differs}
 use Rattle.actor_rules.proofs.Matching.{Match, match_weaken}
 use Rattle.actor_rules.proofs.Objects.{Lists, poll_side, poster_side}
 use Rattle.actor_rules.proofs.Queues.{QueueLives, QueueStands, IsItem, written, written_by}

@@ -5,24 +5,24 @@ use Rattle.bus_core.specs.declared.turn.Step.{Step}
 use Rattle.bus_core.specs.declared.turn.Step.TheVariants.{More, Gave, Done}
 use Rattle.bus_core.specs.Mark.{Marked}
 use Rattle.bus_core.specs.Trace.{Memory, after_entry, Tells}
-use Rattle.verbs_model.specs.declared.call.Call.{Call}
-use Rattle.verbs_model.specs.declared.call.Call.TheVariants.{Poll, Drain}
-use Rattle.verbs_model.specs.declared.completion.Completion.{Completion}
-use Rattle.verbs_model.specs.declared.declaration.Lines.{Lines}
-use Rattle.verbs_model.specs.declared.entry.What.{What}
-use Rattle.verbs_model.specs.declared.entry.What.TheVariants as entries
-use Rattle.verbs_model.specs.Turned.{Running}
+use Rattle.verbs_types.specs.declared.call.Call.{Call}
+use Rattle.verbs_types.specs.declared.call.Call.TheVariants.{Poll, Drain}
+use Rattle.verbs_types.specs.declared.completion.Completion.{Completion}
+use Rattle.verbs_types.specs.declared.declaration.Lines.{Lines}
+use Rattle.verbs_types.specs.declared.entry.What.{What}
+use Rattle.verbs_types.specs.declared.entry.What.TheVariants as entries
+use Rattle.verbs_rules.specs.Running.{Running}
 use Rattle.object_places.specs.Objects.{Mark}
 use Rattle.provider_poll.specs.declared.answer.PollAnswer.{PollAnswer}
 use Rattle.provider_poll.specs.Rule.{PollRule}
-use Rattle.provider_poll.specs.RuleTurned.{after_poll_side}
+use Rattle.provider_poll.specs.RuleStep.{after_poll_side}
 use Rattle.actor_rules.specs.Family.{put_number}
 use Rattle.actor_rules.specs.Thread.{Thread, poll_place}
 use Rattle.actor_rules.specs.Polling.{MayPoll, poll_now, poll_mark, polled, poll_says, took_some, given_after, drain_left, calls_after_poll, calls_after_drain}
 use Rattle.actor_rules.specs.Calls.{after_call, call_says, thread_says}
 use Rattle.actor_rules.specs.Actors.{Actors, by, after_by, posted_with}
-use Rattle.verbs_model.proofs.Choices.{differs}
-use Rattle.verbs_model.proofs.GoesSettle.{polling_goes, draining_goes}
+use Rattle.verbs_laws.proofs.Choices.{differs}
+use Rattle.verbs_laws.proofs.GoesSettle.{polling_goes, draining_goes}
 use Rattle.actor_rules.specs.Ready.{IsOwnCall}
 use Rattle.actor_rules.proofs.Holding.{Holds, Goes, IsMapped}
 use Rattle.actor_rules.proofs.PollDues.{Job, poll_job, drain_job}
@@ -30,7 +30,7 @@ use Rattle.actor_rules.proofs.PollNow.{poll_stands}
 use Rattle.actor_rules.proofs.PollOutcomes.{IsOngoing, Speaks}
 use Rattle.actor_rules.proofs.PollFinish.{finish}
 use Rattle.actor_rules.proofs.PollSteps.{comes}
-use Rattle.verbs_model.specs.Sane.{Bounds}
+use Rattle.verbs_rules.specs.Sane.{Bounds}
 
 module _ (d : Lines) (programs : List (List Call)) (total : Bounds) (map : IsMapped d) (m : Memory) (w : Actors) (r : Running) (x : Marked Mark) (t : ℕ) (h : Holds d programs total m w r) (tells : Tells m x.entry) where
   abbrev th : Thread

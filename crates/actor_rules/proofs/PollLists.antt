@@ -4,30 +4,30 @@ use Rattle.std.specs.List.{AllByRecursion, prefix_len}
 use Rattle.std.proofs.lemmas.Bool.{eq-eqb, lt-ltb, le-leb, and_from, false≢true}
 use Rattle.std.proofs.lemmas.List.{take_more}
 use Rattle.std.proofs.lemmas.Option.{slice_get_within, get_or_from_slice_get}
-use Rattle.verbs_model.specs.declared.completion.Completion.{Completion}
-use Rattle.verbs_model.specs.declared.completion.Queue.{Queue}
-use Rattle.verbs_model.specs.declared.completion.Queue.TheVariants.{Send}
-use Rattle.verbs_model.specs.declared.declaration.Lines.{Lines}
-use Rattle.verbs_model.specs.declared.state.Unpolled.{Unpolled}
-use Rattle.verbs_model.specs.Answered.{Due, Retiring, Acking}
-use Rattle.verbs_model.specs.Same.{same_queue}
+use Rattle.verbs_types.specs.declared.completion.Completion.{Completion}
+use Rattle.verbs_types.specs.declared.completion.Queue.{Queue}
+use Rattle.verbs_types.specs.declared.completion.Queue.TheVariants.{Send}
+use Rattle.verbs_types.specs.declared.declaration.Lines.{Lines}
+use Rattle.verbs_types.specs.declared.state.Unpolled.{Unpolled}
+use Rattle.verbs_rules.specs.Answered.{Due, Retiring, Acking}
+use Rattle.verbs_rules.specs.Same.{same_queue}
 use Rattle.counted_ring.specs.Retirer.{Retirer}
 use Rattle.object_places.specs.Places.{send_of}
 use Rattle.provider_poll.specs.declared.state.End.{End}
 use Rattle.provider_poll.specs.Rule.{QueuePlace, queues_at}
 use Rattle.provider_poll.specs.SendQueue.{SendView, is_idle}
 use Rattle.provider_poll.specs.Stores.{may_store, may_store_in, is_ready, from_ready, storing, storing_first}
-use Rattle.provider_poll.specs.Turned.{place_of_number}
+use Rattle.provider_poll.specs.PollStep.{place_of_number}
 use Rattle.actor_rules.specs.Thread.{completing}
 use Rattle.actor_rules.specs.Polling.{place_in}
 use Rattle.actor_rules.specs.Dues.{retiring}
-use Rattle.verbs_model.specs.Sane.{Climbs, numbers_in}
-use Rattle.verbs_model.proofs.Choices.{either, differs}
+use Rattle.verbs_rules.specs.Sane.{Climbs, numbers_in}
+use Rattle.verbs_laws.proofs.Choices.{either, differs}
 use Rattle.actor_rules.proofs.Matching.{Match}
 use Rattle.actor_rules.proofs.Objects.{retirer_in}
 use Rattle.actor_rules.proofs.Completions.{IsEnd, ends_on}
-use Rattle.verbs_model.proofs.GoesSettle.{ends_owed}
-use Rattle.verbs_model.proofs.Waiting.{completion_in}
+use Rattle.verbs_laws.proofs.GoesSettle.{ends_owed}
+use Rattle.verbs_laws.proofs.Waiting.{completion_in}
 use Rattle.actor_rules.proofs.PollPlaces.{HasPlace, same_pair}
 
 -- The send queues by place

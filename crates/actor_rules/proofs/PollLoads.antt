@@ -7,13 +7,13 @@ use Rattle.bus_core.specs.declared.turn.Step.{Step}
 use Rattle.bus_core.specs.declared.turn.Step.TheVariants.{More, Done}
 use Rattle.bus_core.specs.Operation.{loaded}
 use Rattle.bus_core.specs.Trace.{Memory, after_entry, Tells}
-use Rattle.verbs_model.specs.declared.call.Call.{Call}
-use Rattle.verbs_model.specs.declared.completion.Completion.{Completion}
-use Rattle.verbs_model.specs.declared.declaration.Lines.{Lines}
-use Rattle.verbs_model.specs.declared.entry.What.{What}
-use Rattle.verbs_model.specs.declared.entry.What.TheVariants.{Poll}
-use Rattle.verbs_model.specs.declared.state.Unpolled.{Unpolled}
-use Rattle.verbs_model.specs.State.{Verbs}
+use Rattle.verbs_types.specs.declared.call.Call.{Call}
+use Rattle.verbs_types.specs.declared.completion.Completion.{Completion}
+use Rattle.verbs_types.specs.declared.declaration.Lines.{Lines}
+use Rattle.verbs_types.specs.declared.entry.What.{What}
+use Rattle.verbs_types.specs.declared.entry.What.TheVariants.{Poll}
+use Rattle.verbs_types.specs.declared.state.Unpolled.{Unpolled}
+use Rattle.verbs_rules.specs.State.{Verbs}
 use Rattle.owner_ring.specs.Consumer.{Consumer, next_index}
 use Rattle.cqe_format.specs.declared.completion.Cqe.{Cqe}
 use Rattle.cq_pair.specs.declared.place.CqPlace.{CqPlace}
@@ -32,19 +32,19 @@ use Rattle.provider_poll.specs.declared.answer.PollAnswer.TheVariants.{Polled}
 use Rattle.provider_poll.specs.declared.state.End.{End}
 use Rattle.provider_poll.specs.declared.state.PollState.{PollState}
 use Rattle.provider_poll.specs.declared.state.PollState.TheVariants as states
-use Rattle.provider_poll.specs.declared.turned.Turned.{Turned}
+use Rattle.provider_poll.specs.declared.poll_step.PollStep.{PollStep}
 use Rattle.provider_poll.specs.Rule.{PollRule, OnHost, MayLook}
-use Rattle.provider_poll.specs.RuleTurned.{host_step, seen_by, poll_side_turned, after_poll_side}
+use Rattle.provider_poll.specs.RuleStep.{host_step, seen_by, poll_side_step, after_poll_side}
 use Rattle.provider_poll.specs.Note.{poll_note}
 use Rattle.provider_poll.specs.Stores.{storing}
-use Rattle.provider_poll.specs.Turned.{after_look, with_completion, with_none, place_of}
+use Rattle.provider_poll.specs.PollStep.{after_look, with_completion, with_none, place_of}
 use Rattle.actor_rules.specs.Thread.{poll_place}
 use Rattle.actor_rules.specs.Polling.{place_in, given_with, load_says}
 use Rattle.actor_rules.specs.Actors.{Actors}
 use Rattle.actor_rules.proofs.Matching.{Match, match_at, match_length, match_weaken}
 use Rattle.actor_rules.proofs.Objects.{Lists, retirer_in}
 use Rattle.actor_rules.proofs.Completions.{CompletionsStand, IsCompletion, IsEnd, AskedFor, ReadsNext}
-use Rattle.verbs_model.proofs.Waiting.{completion_in}
+use Rattle.verbs_laws.proofs.Waiting.{completion_in}
 use Rattle.actor_rules.proofs.PollFrame.{Moves, verbs_refl, requests_refl, completions_kept, completion_same}
 use Rattle.actor_rules.proofs.PollLists.{IsPlaced, all_at, slice_get-drop, slice_get-take, stores_owed}
 use Rattle.actor_rules.proofs.PollNow.{PollNow}
@@ -162,7 +162,7 @@ module _ (d : Lines) (programs : List (List Call)) (m : Memory) (w : Actors) (t 
             });
           })
 
-      abbrev turn_with : Option ℕ → Turned
+      abbrev turn_with : Option ℕ → PollStep
       turn_with o = with_completion cq (views d cq rs) most (record { items = es }) seen' completion o
 
       on_took : Comes (side_at (turn_with (place_of (views d cq rs) completion)).state) (turn_with (place_of (views d cq rs) completion)).answer (load_says cq most (given_with given (turn_with (place_of (views d cq rs) completion)).answer) (turn_with (place_of (views d cq rs) completion)).state)
@@ -255,13 +255,13 @@ module _ (d : Lines) (programs : List (List Call)) (m : Memory) (w : Actors) (t 
             });
           }))
 
-      abbrev turn_none : Turned
+      abbrev turn_none : PollStep
       turn_none = with_none cq (views d cq rs) most (record { items = es }) seen' word
 
       on_none : Comes (side_at turn_none.state) turn_none.answer (load_says cq most (given_with given turn_none.answer) turn_none.state)
       on_none = by (length es == 0) refl
         where
-          turn_by : Bool → Turned
+          turn_by : Bool → PollStep
           turn_by b = if b then record { state = states.Idle; answer = Done (Polled 0 (Some word)); noted = Some (poll_note cq most 0 seen') }
               else record { state = storing (views d cq rs) (length es) (Some word) es; answer = More; noted = Some (poll_note cq most (length es) seen') }
 
@@ -274,7 +274,7 @@ module _ (d : Lines) (programs : List (List Call)) (m : Memory) (w : Actors) (t 
           by false some = some_by es refl some
 
     -- by what it says
-    abbrev turn_after : Option QueueEvent → Turned
+    abbrev turn_after : Option QueueEvent → PollStep
     turn_after said = after_look cq (views d cq rs) most (record { items = es }) seen' (host_step e said)
 
     pub by_said : (said : Option QueueEvent) → IsLook c said → completions.Goes (completions_of d cq) (after_entry m e) (w.adapter.queues cq) c' q said
@@ -289,7 +289,7 @@ module _ (d : Lines) (programs : List (List Call)) (m : Memory) (w : Actors) (t 
 
   -- a load of the completion queue's words
   pub loads : (mark : QueueMark) → Tells m e → MayLook (poll_place d cq) side mark e
-      → Comes (after_poll_side (poll_place d cq) side (OnHost mark) e) (poll_side_turned (poll_place d cq) side (OnHost mark) e).answer (load_says cq most (given_with given (poll_side_turned (poll_place d cq) side (OnHost mark) e).answer) (poll_side_turned (poll_place d cq) side (OnHost mark) e).state)
+      → Comes (after_poll_side (poll_place d cq) side (OnHost mark) e) (poll_side_step (poll_place d cq) side (OnHost mark) e).answer (load_says cq most (given_with given (poll_side_step (poll_place d cq) side (OnHost mark) e).answer) (poll_side_step (poll_place d cq) side (OnHost mark) e).state)
   loads mark tells may =
       let place : CqPlace = completions_of d cq in
       by_said (after_poll place c mark e) (seen_by (poll_place d cq) side mark e) (poll_inside place m (w.adapter.queues cq) c q mark e now.host may.polls) (look_reads place e c mark may.next now.stands.reads)

@@ -4,13 +4,13 @@ use Rattle.std.proofs.lemmas.Bool.{true≢false}
 use Rattle.std.proofs.lemmas.Option.{get_or_from_slice_get}
 use Rattle.bus_core.specs.declared.operation.BusEntry.{BusEntry}
 use Rattle.bus_core.specs.Trace.{Memory, after_entry, Tells}
-use Rattle.verbs_model.specs.declared.call.Call.{Call}
-use Rattle.verbs_model.specs.declared.completion.Completion.{Completion}
-use Rattle.verbs_model.specs.declared.completion.Queue.TheVariants.{Send}
-use Rattle.verbs_model.specs.declared.declaration.Lines.{Lines}
-use Rattle.verbs_model.specs.declared.state.Unpolled.{Unpolled}
-use Rattle.verbs_model.specs.Rows.{nop_completion}
-use Rattle.verbs_model.specs.State.{Verbs}
+use Rattle.verbs_types.specs.declared.call.Call.{Call}
+use Rattle.verbs_types.specs.declared.completion.Completion.{Completion}
+use Rattle.verbs_types.specs.declared.completion.Queue.TheVariants.{Send}
+use Rattle.verbs_types.specs.declared.declaration.Lines.{Lines}
+use Rattle.verbs_types.specs.declared.state.Unpolled.{Unpolled}
+use Rattle.verbs_rules.specs.Rows.{nop_completion}
+use Rattle.verbs_rules.specs.State.{Verbs}
 use Rattle.owner_ring.specs.Consumer.{Consumer}
 use Rattle.cqe_format.specs.declared.completion.Cqe.{Cqe}
 use Rattle.counted_ring.specs.Mark.{WqMark, Count}
@@ -23,12 +23,12 @@ use Rattle.counted_ring.proofs.Tied as requests
 use Rattle.object_places.specs.Places.{send_of}
 use Rattle.provider_poll.specs.declared.state.End.{End}
 use Rattle.provider_poll.specs.declared.state.PollState.TheVariants as states
-use Rattle.provider_poll.specs.declared.turned.Turned.{Turned}
+use Rattle.provider_poll.specs.declared.poll_step.PollStep.{PollStep}
 use Rattle.provider_poll.specs.Completion.{completion_of}
 use Rattle.provider_poll.specs.Rule.{PollRule, OnQueue, MayLookUp, lookup_in, found_before}
-use Rattle.provider_poll.specs.RuleTurned.{retirer_step, poll_side_turned, after_poll_side}
+use Rattle.provider_poll.specs.RuleStep.{retirer_step, poll_side_step, after_poll_side}
 use Rattle.provider_poll.specs.SendQueue.{SendView}
-use Rattle.provider_poll.specs.Turned.{with_end, after_lookup}
+use Rattle.provider_poll.specs.PollStep.{with_end, after_lookup}
 use Rattle.actor_rules.specs.Thread.{poll_place}
 use Rattle.actor_rules.specs.Polling.{place_in, given_with, load_says}
 use Rattle.actor_rules.specs.Actors.{Actors}
@@ -75,13 +75,13 @@ module _ (d : Lines) (programs : List (List Call)) (m : Memory) (w : Actors) (t 
   later : (l.queues (Send u.completion.qp)).retired < u.number
   later = later_now d programs m w t cq most l v side given now refl (length es) u looked.next_is placed
 
-  abbrev Comes : PollRule → Turned → Type 0
+  abbrev Comes : PollRule → PollStep → Type 0
   Comes p turn = Outcome d programs (after_entry m e) w t cq most l v side given p turn.answer (load_says cq most (given_with given turn.answer) turn.state)
 
   abbrev rs_then : WqMark → List Retirer
   rs_then mark = retirers_then d programs m w t cq most l v side given now e qp place mark
 
-  abbrev turn_by : WqMark → Turned
+  abbrev turn_by : WqMark → PollStep
   turn_by mark = turn_then d programs m w t cq most l v side given now e qp place mark
 
   abbrev ComesBy : WqMark → Type 0
@@ -119,7 +119,7 @@ module _ (d : Lines) (programs : List (List Call)) (m : Memory) (w : Actors) (t 
         ∙ ap (λ (i : ℕ). nop_completion u.completion.qp i 0) (id_is ∙ ap (λ (i : ℕ). (request_of (l.queues (Send i)) (u.number - 1)).id) (sym same))
         ∙ sym looked.spells.told
 
-    abbrev found_turn : ℕ → Completion → Turned
+    abbrev found_turn : ℕ → Completion → PollStep
     found_turn end completion = with_end cq (views d cq (rs_then Count)) most (record { items = es }) seen (record { queue = queue; end = end }) completion
 
     turn_is : turn_by Count ≡ found_turn u.number u.completion
@@ -129,7 +129,7 @@ module _ (d : Lines) (programs : List (List Call)) (m : Memory) (w : Actors) (t 
         ∙ ap (found_turn u.number) completion_is
 
     found : ComesBy Count
-    found = subst (λ (turn : Turned). Comes (record { host = c; seen = seen; retirers = rs_then Count; state = turn.state }) turn) (sym turn_is)
+    found = subst (λ (turn : PollStep). Comes (record { host = c; seen = seen; retirers = rs_then Count; state = turn.state }) turn) (sym turn_is)
         (on_found d programs m w t cq most l v c seen rs es cqe queue given now e qp place is_here u looked.next_is same (end_after e) end_is (serve_there d programs m w t cq most l v side given now e qp place Count may) goes.1)
 
   by_asked : (asked : Option Asked) → mine.asked ≡ asked → (mark : WqMark) → mark ≡ lookup_mark cqe.counter (found_before mine) asked → MayServe (send_of d qp) mine mark e → ComesBy mark
@@ -138,7 +138,7 @@ module _ (d : Lines) (programs : List (List Call)) (m : Memory) (w : Actors) (t 
   by_asked (Some a) is mark mark_is may = subst ComesBy (sym mark_is) (found a is (subst (λ (x : WqMark). MayServe (send_of d qp) mine x e) mark_is may))
 
   pub looks_up : (mark : WqMark) → MayLookUp (poll_place d cq) side cqe queue (place_in d cq qp) mark e
-      → Comes (after_poll_side (poll_place d cq) side (OnQueue (place_in d cq qp) mark) e) (poll_side_turned (poll_place d cq) side (OnQueue (place_in d cq qp) mark) e)
+      → Comes (after_poll_side (poll_place d cq) side (OnQueue (place_in d cq qp) mark) e) (poll_side_step (poll_place d cq) side (OnQueue (place_in d cq qp) mark) e)
   looks_up mark may =
       let view_is = served_is d programs m w t cq most l v side given now e qp place queue mark may.serves is_here in
       let serves : MayServe (send_of d qp) mine mark e = subst (λ (x : SendView). MayServe x.place x.side mark e) view_is may.serves.serves in

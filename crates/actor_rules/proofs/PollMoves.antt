@@ -5,16 +5,16 @@ use Rattle.std.proofs.lemmas.List.{get_or-set_same, get_or-set_other}
 use Rattle.bus_core.specs.declared.operation.BusEntry.{BusEntry}
 use Rattle.bus_core.specs.Trace.{Memory, after_entry}
 use Rattle.bus_core.proofs.Words.{apart_kept}
-use Rattle.verbs_model.specs.declared.call.Call.{Call}
-use Rattle.verbs_model.specs.declared.completion.Completion.{Completion}
-use Rattle.verbs_model.specs.declared.completion.Queue.{Queue}
-use Rattle.verbs_model.specs.declared.completion.Queue.TheVariants.{Send, Recv}
-use Rattle.verbs_model.specs.declared.declaration.Lines.{Lines}
-use Rattle.verbs_model.specs.Family.{put}
-use Rattle.verbs_model.specs.Same.{same_queue}
-use Rattle.verbs_model.specs.State.{Verbs}
-use Rattle.verbs_model.proofs.Families.{put_at, put_beside}
-use Rattle.verbs_model.proofs.Sameness.{same_queue_refl, same_queue-true}
+use Rattle.verbs_types.specs.declared.call.Call.{Call}
+use Rattle.verbs_types.specs.declared.completion.Completion.{Completion}
+use Rattle.verbs_types.specs.declared.completion.Queue.{Queue}
+use Rattle.verbs_types.specs.declared.completion.Queue.TheVariants.{Send, Recv}
+use Rattle.verbs_types.specs.declared.declaration.Lines.{Lines}
+use Rattle.verbs_rules.specs.Family.{put}
+use Rattle.verbs_rules.specs.Same.{same_queue}
+use Rattle.verbs_rules.specs.State.{Verbs}
+use Rattle.verbs_laws.proofs.Families.{put_at, put_beside}
+use Rattle.verbs_laws.proofs.Sameness.{same_queue_refl, same_queue-true}
 use Rattle.cq_pair.specs.Queue.{PlainQueue}
 use Rattle.cq_pair.proofs.Tied as completions
 use Rattle.counted_ring.specs.Poster.{Poster}
@@ -29,7 +29,7 @@ use Rattle.device_engine.specs.State.{send_cq}
 use Rattle.actor_rules.specs.Family.{put_number}
 use Rattle.actor_rules.specs.Polling.{place_in}
 use Rattle.actor_rules.specs.Actors.{Actors}
-use Rattle.verbs_model.proofs.Choices.{either}
+use Rattle.verbs_laws.proofs.Choices.{either}
 use Rattle.actor_rules.proofs.Objects.{Lists, IsTied, poll_side, poster_side, retirer_in, retirer_side}
 use Rattle.actor_rules.proofs.Queues.{QueueLives}
 use Rattle.actor_rules.proofs.Completions.{CompletionsStand}

@@ -4,12 +4,12 @@ use Rattle.std.proofs.lemmas.Bool.{lt-ltb}
 use Rattle.bus_core.specs.declared.operation.BusEntry.{BusEntry}
 use Rattle.bus_core.specs.Operation.{loaded}
 use Rattle.bus_core.specs.Trace.{Memory, after_entry, Tells}
-use Rattle.verbs_model.specs.declared.call.Call.{Call}
-use Rattle.verbs_model.specs.declared.completion.Completion.{Completion}
-use Rattle.verbs_model.specs.declared.completion.Queue.TheVariants.{Send}
-use Rattle.verbs_model.specs.declared.declaration.Lines.{Lines}
-use Rattle.verbs_model.specs.declared.state.Unpolled.{Unpolled}
-use Rattle.verbs_model.specs.State.{Verbs}
+use Rattle.verbs_types.specs.declared.call.Call.{Call}
+use Rattle.verbs_types.specs.declared.completion.Completion.{Completion}
+use Rattle.verbs_types.specs.declared.completion.Queue.TheVariants.{Send}
+use Rattle.verbs_types.specs.declared.declaration.Lines.{Lines}
+use Rattle.verbs_types.specs.declared.state.Unpolled.{Unpolled}
+use Rattle.verbs_rules.specs.State.{Verbs}
 use Rattle.owner_ring.specs.Consumer.{Consumer}
 use Rattle.cqe_format.specs.declared.completion.Cqe.{Cqe}
 use Rattle.counted_ring.specs.Mark.{WqMark, Lookup}
@@ -18,7 +18,7 @@ use Rattle.counted_ring.specs.RetirerView.{MayServe}
 use Rattle.object_places.specs.Places.{send_of}
 use Rattle.provider_poll.specs.declared.state.End.{End}
 use Rattle.provider_poll.specs.declared.state.PollState.TheVariants as states
-use Rattle.provider_poll.specs.declared.turned.Turned.{Turned}
+use Rattle.provider_poll.specs.declared.poll_step.PollStep.{PollStep}
 use Rattle.provider_poll.specs.Rule.{PollRule, found_before}
 use Rattle.actor_rules.specs.Polling.{place_in, given_with, load_says}
 use Rattle.actor_rules.specs.Actors.{Actors}
@@ -82,7 +82,7 @@ module _ (d : Lines) (programs : List (List Call)) (m : Memory) (w : Actors) (t 
         ends = s.ends;
       }
 
-  abbrev turn : Turned
+  abbrev turn : PollStep
   turn = turn_then d programs m w t cq most l v side given now e qp place mark
 
   pub named : (u : Unpolled) → u.completion.qp ≡ qp → IsCompletion l cqe u → (l.queues (Send u.completion.qp)).retired < u.number → MayServe (send_of d qp) mine mark e → Tells m e

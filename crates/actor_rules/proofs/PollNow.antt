@@ -3,17 +3,17 @@ use Rattle.std.proofs.Common.{◌≡◌, ℕ, zero, suc, refl, sym, ap, ◌∙�
 use Rattle.std.specs.List.{AllByRecursion}
 use Rattle.std.proofs.lemmas.Bool.{eq-eqb}
 use Rattle.bus_core.specs.Trace.{Memory}
-use Rattle.verbs_model.specs.declared.call.Call.{Call}
-use Rattle.verbs_model.specs.declared.completion.Completion.{Completion}
-use Rattle.verbs_model.specs.declared.completion.Queue.{Queue}
-use Rattle.verbs_model.specs.declared.completion.Queue.TheVariants.{Send}
-use Rattle.verbs_model.specs.declared.declaration.Lines.{Lines}
-use Rattle.verbs_model.specs.declared.declaration.TheConstants.{FIRST_QP}
-use Rattle.verbs_model.specs.declared.state.QueuePair.{QueuePair}
-use Rattle.verbs_model.specs.declared.state.Unpolled.{Unpolled}
-use Rattle.verbs_model.specs.State.{Verbs}
-use Rattle.verbs_model.specs.Turned.{Running}
-use Rattle.verbs_model.specs.Answered.{Due}
+use Rattle.verbs_types.specs.declared.call.Call.{Call}
+use Rattle.verbs_types.specs.declared.completion.Completion.{Completion}
+use Rattle.verbs_types.specs.declared.completion.Queue.{Queue}
+use Rattle.verbs_types.specs.declared.completion.Queue.TheVariants.{Send}
+use Rattle.verbs_types.specs.declared.declaration.Lines.{Lines}
+use Rattle.verbs_types.specs.declared.declaration.TheConstants.{FIRST_QP}
+use Rattle.verbs_types.specs.declared.state.QueuePair.{QueuePair}
+use Rattle.verbs_types.specs.declared.state.Unpolled.{Unpolled}
+use Rattle.verbs_rules.specs.State.{Verbs}
+use Rattle.verbs_rules.specs.Running.{Running}
+use Rattle.verbs_rules.specs.Answered.{Due}
 use Rattle.owner_ring.specs.Place.{size, IsPlace}
 use Rattle.cq_pair.specs.Place.{ring_of}
 use Rattle.cq_pair.proofs.Tied as completions
@@ -28,7 +28,7 @@ use Rattle.device_engine.specs.State.{send_cq}
 use Rattle.actor_rules.specs.Owners.{poller_of}
 use Rattle.actor_rules.specs.Polling.{place_in, begun, poll_now}
 use Rattle.actor_rules.specs.Actors.{Actors}
-use Rattle.verbs_model.specs.Sane.{Bounds, Climbs, IsHomed, into, numbers_in, completed_by}
+use Rattle.verbs_rules.specs.Sane.{Bounds, Climbs, IsHomed, into, numbers_in, completed_by}
 use Rattle.actor_rules.proofs.Objects.{Lists, poll_side, poster_side, retirer_in, retirer_side}
 use Rattle.actor_rules.proofs.Queues.{QueueLives, QueueStands}
 use Rattle.actor_rules.proofs.Frame.{AllTied}

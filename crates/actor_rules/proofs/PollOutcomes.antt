@@ -3,17 +3,17 @@ use Rattle.std.proofs.Common.{◌≡◌, ◌⊎◌, ℕ, suc, ◌-◌, ◌<◌, 
 use Rattle.bus_core.specs.declared.turn.Step.{Step}
 use Rattle.bus_core.specs.declared.turn.Step.TheVariants.{More, Done}
 use Rattle.bus_core.specs.Trace.{Memory}
-use Rattle.verbs_model.specs.declared.call.Call.{Call}
-use Rattle.verbs_model.specs.declared.completion.Completion.{Completion}
-use Rattle.verbs_model.specs.declared.completion.Queue.{Queue}
-use Rattle.verbs_model.specs.declared.completion.Queue.TheVariants.{Send}
-use Rattle.verbs_model.specs.declared.declaration.Lines.{Lines}
-use Rattle.verbs_model.specs.declared.entry.What.{What}
-use Rattle.verbs_model.specs.declared.entry.What.TheVariants.{Poll, Retire, Ack}
-use Rattle.verbs_model.specs.declared.state.Unpolled.{Unpolled}
-use Rattle.verbs_model.specs.Answered.{Due, Retiring, Acking, Answers, left_by, settling}
-use Rattle.verbs_model.specs.State.{Verbs}
-use Rattle.verbs_model.specs.Step.{after}
+use Rattle.verbs_types.specs.declared.call.Call.{Call}
+use Rattle.verbs_types.specs.declared.completion.Completion.{Completion}
+use Rattle.verbs_types.specs.declared.completion.Queue.{Queue}
+use Rattle.verbs_types.specs.declared.completion.Queue.TheVariants.{Send}
+use Rattle.verbs_types.specs.declared.declaration.Lines.{Lines}
+use Rattle.verbs_types.specs.declared.entry.What.{What}
+use Rattle.verbs_types.specs.declared.entry.What.TheVariants.{Poll, Retire, Ack}
+use Rattle.verbs_types.specs.declared.state.Unpolled.{Unpolled}
+use Rattle.verbs_rules.specs.Answered.{Due, Retiring, Acking, Answers, left_by, settling}
+use Rattle.verbs_rules.specs.State.{Verbs}
+use Rattle.verbs_rules.specs.Step.{after}
 use Rattle.provider_poll.specs.declared.answer.PollAnswer.{PollAnswer}
 use Rattle.provider_poll.specs.declared.answer.PollAnswer.TheVariants.{Polled}
 use Rattle.provider_poll.specs.declared.state.PollState.TheVariants as states
@@ -21,11 +21,11 @@ use Rattle.provider_poll.specs.Rule.{PollRule}
 use Rattle.actor_rules.specs.Polling.{given_after}
 use Rattle.actor_rules.specs.Actors.{Actors}
 use Rattle.actor_rules.specs.Dues.{is_storing, store_dues}
-use Rattle.verbs_model.specs.Sane.{Bounds, Sane}
-use Rattle.verbs_model.specs.Proper.{Owes}
-use Rattle.verbs_model.specs.Sane as sane
-use Rattle.verbs_model.proofs.GoesSettle.{ends_owed}
-use Rattle.verbs_model.proofs.Waiting.{completion_in}
+use Rattle.verbs_rules.specs.Sane.{Bounds, Sane}
+use Rattle.verbs_rules.specs.Proper.{Owes}
+use Rattle.verbs_rules.specs.Sane as sane
+use Rattle.verbs_laws.proofs.GoesSettle.{ends_owed}
+use Rattle.verbs_laws.proofs.Waiting.{completion_in}
 use Rattle.actor_rules.proofs.Objects.{Lists}
 use Rattle.actor_rules.proofs.Threads.{IsPollFor}
 use Rattle.actor_rules.proofs.Holding.{Goes}

@@ -1,12 +1,12 @@
 -- That the first of the ends that a poll has found may be stored, and what a poll knows of its queues.
 use Rattle.std.proofs.Common.{◌≡◌, ◌≢◌, ℕ, zero, suc, refl, sym, ap, ◌∙◌, subst, arith, ◌<◌, ◌≤◌, ◌^◌, true, List, [], ◌∷◌, ◌++◌, length, take, slice_get, Option, None, Some}
-use Rattle.verbs_model.specs.declared.call.Call.{Call}
+use Rattle.verbs_types.specs.declared.call.Call.{Call}
 use Rattle.bus_core.specs.Trace.{Memory}
-use Rattle.verbs_model.specs.declared.completion.Completion.{Completion}
-use Rattle.verbs_model.specs.declared.completion.Queue.TheVariants.{Send}
-use Rattle.verbs_model.specs.declared.declaration.Lines.{Lines}
-use Rattle.verbs_model.specs.declared.state.Unpolled.{Unpolled}
-use Rattle.verbs_model.specs.State.{Verbs}
+use Rattle.verbs_types.specs.declared.completion.Completion.{Completion}
+use Rattle.verbs_types.specs.declared.completion.Queue.TheVariants.{Send}
+use Rattle.verbs_types.specs.declared.declaration.Lines.{Lines}
+use Rattle.verbs_types.specs.declared.state.Unpolled.{Unpolled}
+use Rattle.verbs_rules.specs.State.{Verbs}
 use Rattle.cqe_format.specs.declared.completion.Cqe.{Cqe}
 use Rattle.counted_ring.specs.Retirer.{Asked, Retirer}
 use Rattle.provider_poll.specs.declared.state.End.{End}
@@ -14,11 +14,11 @@ use Rattle.provider_poll.specs.declared.state.PollState.TheVariants as states
 use Rattle.provider_poll.specs.Rule.{PollRule, queues_at}
 use Rattle.provider_poll.specs.SendQueue.{SendView}
 use Rattle.provider_poll.specs.Stores.{may_store, storing}
-use Rattle.provider_poll.specs.Turned.{place_of}
+use Rattle.provider_poll.specs.PollStep.{place_of}
 use Rattle.actor_rules.specs.Thread.{completing}
 use Rattle.actor_rules.specs.Polling.{place_in}
 use Rattle.actor_rules.specs.Actors.{Actors}
-use Rattle.verbs_model.specs.Sane.{Climbs, numbers_in}
+use Rattle.verbs_rules.specs.Sane.{Climbs, numbers_in}
 use Rattle.actor_rules.proofs.Objects.{Lists, retirer_in}
 use Rattle.actor_rules.proofs.Completions.{IsCompletion, IsEnd, AskedFor, pending, ends_on}
 use Rattle.actor_rules.proofs.PollPlaces.{HasPlace, living_by_place}

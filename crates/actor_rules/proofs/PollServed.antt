@@ -4,12 +4,12 @@ use Rattle.std.proofs.lemmas.List.{get_or-set_same, get_or-set_other}
 use Rattle.std.proofs.Math.ListN.{length-set}
 use Rattle.bus_core.specs.declared.operation.BusEntry.{BusEntry}
 use Rattle.bus_core.specs.Trace.{Memory, after_entry, Tells}
-use Rattle.verbs_model.specs.declared.call.Call.{Call}
-use Rattle.verbs_model.specs.declared.completion.Completion.{Completion}
-use Rattle.verbs_model.specs.declared.completion.Queue.TheVariants.{Send}
-use Rattle.verbs_model.specs.declared.declaration.Lines.{Lines}
-use Rattle.verbs_model.specs.declared.state.Unpolled.{Unpolled}
-use Rattle.verbs_model.specs.State.{Verbs}
+use Rattle.verbs_types.specs.declared.call.Call.{Call}
+use Rattle.verbs_types.specs.declared.completion.Completion.{Completion}
+use Rattle.verbs_types.specs.declared.completion.Queue.TheVariants.{Send}
+use Rattle.verbs_types.specs.declared.declaration.Lines.{Lines}
+use Rattle.verbs_types.specs.declared.state.Unpolled.{Unpolled}
+use Rattle.verbs_rules.specs.State.{Verbs}
 use Rattle.cqe_format.specs.declared.completion.Cqe.{Cqe}
 use Rattle.counted_ring.specs.Place.{IsPlace}
 use Rattle.counted_ring.specs.Mark.{WqMark}
@@ -22,14 +22,14 @@ use Rattle.counted_ring.proofs.RetirerStep.{retirer_step}
 use Rattle.counted_ring.proofs.Says.{serve_inside}
 use Rattle.object_places.specs.Objects.{Sends, touches}
 use Rattle.object_places.specs.Places.{send_of}
-use Rattle.provider_poll.specs.declared.turned.Turned.{Turned}
+use Rattle.provider_poll.specs.declared.poll_step.PollStep.{PollStep}
 use Rattle.provider_poll.specs.Rule.{PollRule, OnQueue, MayServeIn, queues_of}
-use Rattle.provider_poll.specs.RuleTurned.{asked_in, asked_with, retirers_with, poll_side_turned, after_poll_side}
+use Rattle.provider_poll.specs.RuleStep.{asked_in, asked_with, retirers_with, poll_side_step, after_poll_side}
 use Rattle.provider_poll.specs.SendQueue.{SendView}
 use Rattle.actor_rules.specs.Thread.{completing, poll_place}
 use Rattle.actor_rules.specs.Polling.{place_in}
 use Rattle.actor_rules.specs.Actors.{Actors}
-use Rattle.verbs_model.proofs.Choices.{either}
+use Rattle.verbs_laws.proofs.Choices.{either}
 use Rattle.actor_rules.proofs.Objects.{Lists, poster_side, retirer_in}
 use Rattle.actor_rules.proofs.Completions.{IsCompletion}
 use Rattle.actor_rules.proofs.PollPlaces.{HasPlace, same_pair, living_by_place}
@@ -63,15 +63,15 @@ module _ (d : Lines) (programs : List (List Call)) (m : Memory) (w : Actors) (t 
     abbrev pub retirers_then : List Retirer
     retirers_then = slice_set p.retirers (place_in d cq qp) side_then
 
-    abbrev pub turn_then : Turned
+    abbrev pub turn_then : PollStep
     turn_then = asked_in (poll_place d cq) p (views d cq retirers_then) mark e (view d qp side_of) p.state
 
     -- what the poll makes of it
-    pub turns_by : (P : PollRule → Turned → Type 0) → P (record { host = p.host; seen = p.seen; retirers = retirers_then; state = turn_then.state }) turn_then
-        → P (after_poll_side (poll_place d cq) p (OnQueue (place_in d cq qp) mark) e) (poll_side_turned (poll_place d cq) p (OnQueue (place_in d cq qp) mark) e)
+    pub turns_by : (P : PollRule → PollStep → Type 0) → P (record { host = p.host; seen = p.seen; retirers = retirers_then; state = turn_then.state }) turn_then
+        → P (after_poll_side (poll_place d cq) p (OnQueue (place_in d cq qp) mark) e) (poll_side_step (poll_place d cq) p (OnQueue (place_in d cq qp) mark) e)
     turns_by P h = subst (λ (o : Option SendView). P (record { host = p.host; seen = p.seen; retirers = retirers_with p.retirers here mark e o; state = (turn_of o).state }) (turn_of o)) (sym view_now) h
       where
-        turn_of : Option SendView → Turned
+        turn_of : Option SendView → PollStep
         turn_of o = asked_with (poll_place d cq) p (views d cq (retirers_with p.retirers here mark e o)) mark e o
 
     pub serve_there : MayServe (send_of d qp) side_of mark e → touches d (Sends qp) e.addr ≡ true

@@ -2,11 +2,11 @@
 use Rattle.std.proofs.Common.{ℕ, sym, subst, List, [], ◌∷◌, Option, if◌then◌else◌}
 use Rattle.bus_core.specs.declared.operation.BusEntry.{BusEntry}
 use Rattle.bus_core.specs.Trace.{Memory, after_entry, Tells}
-use Rattle.verbs_model.specs.declared.call.Call.{Call}
-use Rattle.verbs_model.specs.declared.completion.Completion.{Completion}
-use Rattle.verbs_model.specs.declared.declaration.Lines.{Lines}
-use Rattle.verbs_model.specs.declared.entry.What.{What}
-use Rattle.verbs_model.specs.State.{Verbs}
+use Rattle.verbs_types.specs.declared.call.Call.{Call}
+use Rattle.verbs_types.specs.declared.completion.Completion.{Completion}
+use Rattle.verbs_types.specs.declared.declaration.Lines.{Lines}
+use Rattle.verbs_types.specs.declared.entry.What.{What}
+use Rattle.verbs_rules.specs.State.{Verbs}
 use Rattle.owner_ring.specs.Consumer.{Consumer}
 use Rattle.counted_ring.specs.Mark.{WqMark}
 use Rattle.counted_ring.specs.Retirer.{Retirer}
@@ -14,9 +14,9 @@ use Rattle.object_places.specs.Objects.{Mark, OnCompletions, OnSends, OnReceives
 use Rattle.provider_poll.specs.declared.state.End.{End}
 use Rattle.provider_poll.specs.declared.state.PollState.{PollState}
 use Rattle.provider_poll.specs.declared.state.PollState.TheVariants as states
-use Rattle.provider_poll.specs.declared.turned.Turned.{Turned}
+use Rattle.provider_poll.specs.declared.poll_step.PollStep.{PollStep}
 use Rattle.provider_poll.specs.Rule.{PollRule, MayPollSide}
-use Rattle.provider_poll.specs.RuleTurned.{poll_side_turned, after_poll_side}
+use Rattle.provider_poll.specs.RuleStep.{poll_side_step, after_poll_side}
 use Rattle.actor_rules.specs.Thread.{poll_place}
 use Rattle.actor_rules.specs.Polling.{poll_mark, IsOnPolled, is_loading, load_says, store_says, given_with}
 use Rattle.actor_rules.specs.Actors.{Actors}
@@ -33,8 +33,8 @@ module _ (d : Lines) (programs : List (List Call)) (m : Memory) (w : Actors) (t 
   abbrev side : PollState → PollRule
   side state = record { host = c; seen = seen; retirers = rs; state = state }
 
-  abbrev turn : PollState → Mark → Turned
-  turn state mark = poll_side_turned (poll_place d cq) (side state) (poll_mark d cq mark) e
+  abbrev turn : PollState → Mark → PollStep
+  turn state mark = poll_side_step (poll_place d cq) (side state) (poll_mark d cq mark) e
 
   abbrev Stands : PollState → Type 0
   Stands state = PollNow d programs m w t cq most l v (side state) given

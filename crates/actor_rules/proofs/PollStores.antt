@@ -6,15 +6,15 @@ use Rattle.std.proofs.lemmas.Option.{get_or_from_slice_get}
 use Rattle.bus_core.specs.declared.operation.BusEntry.{BusEntry}
 use Rattle.bus_core.specs.declared.turn.Step.TheVariants.{More}
 use Rattle.bus_core.specs.Trace.{Memory, after_entry, Tells}
-use Rattle.verbs_model.specs.declared.call.Call.{Call}
-use Rattle.verbs_model.specs.declared.completion.Completion.{Completion}
-use Rattle.verbs_model.specs.declared.completion.Queue.TheVariants.{Send}
-use Rattle.verbs_model.specs.declared.declaration.Lines.{Lines}
-use Rattle.verbs_model.specs.declared.entry.What.TheVariants.{Retire as RetireEntry}
-use Rattle.verbs_model.specs.Answered.{Due, Retiring, Acking}
-use Rattle.verbs_model.specs.Rows as rows
-use Rattle.verbs_model.specs.State.{WorkQueue, Verbs}
-use Rattle.verbs_model.specs.Step.{after}
+use Rattle.verbs_types.specs.declared.call.Call.{Call}
+use Rattle.verbs_types.specs.declared.completion.Completion.{Completion}
+use Rattle.verbs_types.specs.declared.completion.Queue.TheVariants.{Send}
+use Rattle.verbs_types.specs.declared.declaration.Lines.{Lines}
+use Rattle.verbs_types.specs.declared.entry.What.TheVariants.{Retire as RetireEntry}
+use Rattle.verbs_rules.specs.Answered.{Due, Retiring, Acking}
+use Rattle.verbs_rules.specs.Rows as rows
+use Rattle.verbs_rules.specs.State.{WorkQueue, Verbs}
+use Rattle.verbs_rules.specs.Step.{after}
 use Rattle.owner_ring.specs.Consumer.{Consumer}
 use Rattle.counted_ring.specs.Mark.{WqMark, Retire}
 use Rattle.counted_ring.specs.Queue as counted
@@ -25,9 +25,9 @@ use Rattle.object_places.specs.Places.{send_of}
 use Rattle.provider_poll.specs.declared.state.End.{End}
 use Rattle.provider_poll.specs.declared.state.PollState.{PollState}
 use Rattle.provider_poll.specs.declared.state.PollState.TheVariants as states
-use Rattle.provider_poll.specs.declared.turned.Turned.{Turned}
+use Rattle.provider_poll.specs.declared.poll_step.PollStep.{PollStep}
 use Rattle.provider_poll.specs.Rule.{PollRule, OnQueue, MayRetire}
-use Rattle.provider_poll.specs.RuleTurned.{poll_side_turned, after_poll_side}
+use Rattle.provider_poll.specs.RuleStep.{poll_side_step, after_poll_side}
 use Rattle.provider_poll.specs.SendQueue.{SendView}
 use Rattle.provider_poll.specs.Stores.{may_store, storing}
 use Rattle.device_engine.specs.State.{send_cq}
@@ -35,8 +35,8 @@ use Rattle.actor_rules.specs.Thread.{poll_place, completing}
 use Rattle.actor_rules.specs.Polling.{place_in, store_says}
 use Rattle.actor_rules.specs.Actors.{Actors}
 use Rattle.actor_rules.specs.Dues.{is_storing, store_dues, retiring}
-use Rattle.verbs_model.specs.Sane.{Climbs, numbers_in}
-use Rattle.verbs_model.proofs.Choices.{either, differs}
+use Rattle.verbs_rules.specs.Sane.{Climbs, numbers_in}
+use Rattle.verbs_laws.proofs.Choices.{either, differs}
 use Rattle.actor_rules.proofs.Objects.{Lists, retirer_in}
 use Rattle.actor_rules.proofs.Completions.{CompletionsStand, PollStands, IsPending, AskedFor, held, pending, ends_on}
 use Rattle.actor_rules.proofs.Threads.{IsPollFor}
@@ -215,10 +215,10 @@ module _ (d : Lines) (programs : List (List Call)) (m : Memory) (w : Actors) (t 
         (λ us. (omega arith, now.stands.poll.1, all_by (IsPending d cq rs) (IsPending d cq rs') pending_kept (y ∷ ys) all)) tt)
 
   pub stores_tail : (mark : WqMark) → MayRetire (poll_place d cq) side x (place_in d cq qp) mark e
-      → Outcome d programs (after_entry m e) w t cq most l v side given (after_poll_side (poll_place d cq) side (OnQueue (place_in d cq qp) mark) e) (poll_side_turned (poll_place d cq) side (OnQueue (place_in d cq qp) mark) e).answer (store_says (OnSends qp mark))
+      → Outcome d programs (after_entry m e) w t cq most l v side given (after_poll_side (poll_place d cq) side (OnQueue (place_in d cq qp) mark) e) (poll_side_step (poll_place d cq) side (OnQueue (place_in d cq qp) mark) e).answer (store_says (OnSends qp mark))
   stores_tail mark may =
       let view_is = served_is d programs m w t cq most l v side given now e qp place x.queue mark may.serves is_here in
       let serves : MayServe (send_of d qp) mine mark e = subst (λ (q : SendView). MayServe q.place q.side mark e) view_is may.serves.serves in
-      turns_by d programs m w t cq most l v side given now e qp place mark (λ (p : PollRule) (turn : Turned). Outcome d programs (after_entry m e) w t cq most l v side given p turn.answer (store_says (OnSends qp mark)))
+      turns_by d programs m w t cq most l v side given now e qp place mark (λ (p : PollRule) (turn : PollStep). Outcome d programs (after_entry m e) w t cq most l v side given p turn.answer (store_says (OnSends qp mark)))
       (subst (λ (k : WqMark). Outcome d programs (after_entry m e) w t cq most l v side given (record { host = c; seen = seen; retirers = retirers_then d programs m w t cq most l v side given now e qp place k; state = (turn_then d programs m w t cq most l v side given now e qp place k).state }) (turn_then d programs m w t cq most l v side given now e qp place k).answer (store_says (OnSends qp k)))
       (sym may.mark_is) (by_left (subst (λ (k : WqMark). MayServe (send_of d qp) mine k e) may.mark_is serves) xs refl))

@@ -2,17 +2,17 @@
 use Rattle.std.proofs.Common.{◌≡◌, ◌≢◌, ℕ, zero, suc, refl, sym, ap, ◌∙◌, subst, arith, ◌+◌, ◌-◌, ◌<◌, ◌≤◌, Bool, false, if◌then◌else◌, List, [], ◌∷◌, ◌++◌, length, map, take, drop, Option, None}
 use Rattle.std.specs.List.{AllByRecursion}
 use Rattle.std.proofs.lemmas.List.{take-append-drop, drop-drop, length-map}
-use Rattle.verbs_model.specs.declared.completion.Completion.{Completion}
-use Rattle.verbs_model.specs.declared.completion.Queue.{Queue}
-use Rattle.verbs_model.specs.declared.completion.Queue.TheVariants.{Send}
-use Rattle.verbs_model.specs.declared.declaration.Lines.{Lines}
-use Rattle.verbs_model.specs.declared.entry.What.TheVariants.{Poll}
-use Rattle.verbs_model.specs.declared.state.Unpolled.{Unpolled}
-use Rattle.verbs_model.specs.Rows.{end, end_all}
-use Rattle.verbs_model.specs.Family.{put}
-use Rattle.verbs_model.specs.Same.{same_queue}
-use Rattle.verbs_model.specs.State.{WorkQueue, CompletionQueue, Verbs}
-use Rattle.verbs_model.specs.Step.{after}
+use Rattle.verbs_types.specs.declared.completion.Completion.{Completion}
+use Rattle.verbs_types.specs.declared.completion.Queue.{Queue}
+use Rattle.verbs_types.specs.declared.completion.Queue.TheVariants.{Send}
+use Rattle.verbs_types.specs.declared.declaration.Lines.{Lines}
+use Rattle.verbs_types.specs.declared.entry.What.TheVariants.{Poll}
+use Rattle.verbs_types.specs.declared.state.Unpolled.{Unpolled}
+use Rattle.verbs_rules.specs.Rows.{end, end_all}
+use Rattle.verbs_rules.specs.Family.{put}
+use Rattle.verbs_rules.specs.Same.{same_queue}
+use Rattle.verbs_rules.specs.State.{WorkQueue, CompletionQueue, Verbs}
+use Rattle.verbs_rules.specs.Step.{after}
 use Rattle.owner_ring.specs.Consumer.{Consumer, next_index}
 use Rattle.cqe_format.specs.declared.completion.Cqe.{Cqe}
 use Rattle.cq_pair.specs.Queue.{produced, since}
@@ -23,12 +23,12 @@ use Rattle.provider_poll.specs.Rule.{PollRule}
 use Rattle.device_engine.specs.State.{send_cq}
 use Rattle.actor_rules.specs.Thread.{completing}
 use Rattle.actor_rules.specs.Polling.{place_in}
-use Rattle.verbs_model.specs.Sane.{numbers_in}
-use Rattle.verbs_model.proofs.Choices.{differs}
+use Rattle.verbs_rules.specs.Sane.{numbers_in}
+use Rattle.verbs_laws.proofs.Choices.{differs}
 use Rattle.actor_rules.proofs.Matching.{Match, match_drop, match_length}
 use Rattle.actor_rules.proofs.Objects.{Lists, retirer_in}
 use Rattle.actor_rules.proofs.Completions.{CompletionsStand, IsCompletion, IsEnd, IsPending, AskedFor, ReadsNext, ends_on, pending}
-use Rattle.verbs_model.proofs.Waiting.{completion_in, ended_at}
+use Rattle.verbs_laws.proofs.Waiting.{completion_in, ended_at}
 use Rattle.actor_rules.proofs.PollPlaces.{living_by_place, place_by_living}
 use Rattle.actor_rules.proofs.PollFrame.{put_here, put_there}
 use Rattle.actor_rules.proofs.PollLists.{IsPlaced, ends_are}

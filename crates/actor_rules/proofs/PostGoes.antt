@@ -6,21 +6,21 @@ use Rattle.std.proofs.lemmas.List.{append_assoc, length-append, length-set, leng
 use Rattle.std.proofs.Math.Seq.{take-length}
 use Rattle.bus_core.specs.Mark.{Marked}
 use Rattle.bus_core.specs.Trace.{Memory, Tells, after_entry}
-use Rattle.verbs_model.specs.declared.call.Call.{Call}
-use Rattle.verbs_model.specs.declared.completion.Queue.{Queue}
-use Rattle.verbs_model.specs.declared.completion.Queue.TheVariants as queues
-use Rattle.verbs_model.specs.declared.declaration.Lines.{Lines}
-use Rattle.verbs_model.specs.declared.entry.Entry.{Entry}
-use Rattle.verbs_model.specs.declared.entry.What.{What}
-use Rattle.verbs_model.specs.declared.entry.What.TheVariants.{Post, PostFull}
-use Rattle.verbs_model.specs.declared.request.Item.{Item}
-use Rattle.verbs_model.specs.Answered.{Due, Posting, Accepting, Answers, MayAnswer, left_by, after_answer, due_by}
-use Rattle.verbs_model.specs.Family.{put}
-use Rattle.verbs_model.specs.Rows as rows
-use Rattle.verbs_model.specs.Same.{same_queue}
-use Rattle.verbs_model.specs.State.{Verbs, WorkQueue}
-use Rattle.verbs_model.specs.Step.{MayStep, after}
-use Rattle.verbs_model.specs.Turned.{Running, after_turn}
+use Rattle.verbs_types.specs.declared.call.Call.{Call}
+use Rattle.verbs_types.specs.declared.completion.Queue.{Queue}
+use Rattle.verbs_types.specs.declared.completion.Queue.TheVariants as queues
+use Rattle.verbs_types.specs.declared.declaration.Lines.{Lines}
+use Rattle.verbs_types.specs.declared.entry.Entry.{Entry}
+use Rattle.verbs_types.specs.declared.entry.What.{What}
+use Rattle.verbs_types.specs.declared.entry.What.TheVariants.{Post, PostFull}
+use Rattle.verbs_types.specs.declared.request.Item.{Item}
+use Rattle.verbs_rules.specs.Answered.{Due, Posting, Accepting, Answers, MayAnswer, left_by, after_answer, due_by}
+use Rattle.verbs_rules.specs.Family.{put}
+use Rattle.verbs_rules.specs.Rows as rows
+use Rattle.verbs_rules.specs.Same.{same_queue}
+use Rattle.verbs_rules.specs.State.{Verbs, WorkQueue}
+use Rattle.verbs_rules.specs.Step.{MayStep, after}
+use Rattle.verbs_rules.specs.Running.{Running, after_turn}
 use Rattle.counted_ring.specs.declared.place.WqPlace.{WqPlace}
 use Rattle.counted_ring.specs.Device.{WqReader}
 use Rattle.counted_ring.specs.Mark as marks
@@ -43,8 +43,8 @@ use Rattle.actor_rules.specs.Family.{put_number}
 use Rattle.actor_rules.specs.Posting.{MayPost, after_post, calls_after_post, post_now, post_says}
 use Rattle.actor_rules.specs.Actors.{Actors, by, posted_with}
 use Rattle.actor_rules.specs.Dues.{dues_at, thread_dues, post_dues}
-use Rattle.verbs_model.specs.Proper as proper
-use Rattle.verbs_model.specs.Sane as verbs
+use Rattle.verbs_rules.specs.Proper as proper
+use Rattle.verbs_rules.specs.Sane as verbs
 use Rattle.actor_rules.proofs.Dues.{dues_at-set}
 use Rattle.actor_rules.proofs.Growing.{Grows, grows_same, grows_event}
 use Rattle.actor_rules.proofs.Matching.{Match, match_push, match_length}
@@ -61,7 +61,7 @@ use Rattle.actor_rules.proofs.PostCalls.{now_of, dues_begun, accepted_begun, pos
 use Rattle.actor_rules.proofs.PostLegal.{CanPost, whole_goes, part_goes, full_goes}
 use Rattle.actor_rules.proofs.PostEnds.{ends, ends_open, ends_refused, ends_rung, ends_registered}
 use Rattle.actor_rules.proofs.PostOutcome.{Outcome, GoesOn, Writes, Refuses, Rings, Registers, comes_to}
-use Rattle.verbs_model.specs.Sane.{Bounds}
+use Rattle.verbs_rules.specs.Sane.{Bounds}
 
 -- a list that has an item
 abbrev is_some_list : List Due → Type 0

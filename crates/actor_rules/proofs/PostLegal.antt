@@ -1,18 +1,18 @@
 -- The entries of a call to post, of a send or a receive queue, are legal steps of the abstract state.
 use Rattle.std.proofs.Common.{◌≡◌, ℕ, suc, ◌≤◌, ◌+◌, ◌-◌, ◌==◌, if◌then◌else◌, true, List, [], ◌∷◌, ◌++◌, length, take, slice_set}
 use Rattle.std.specs.List.{list_all}
-use Rattle.verbs_model.specs.declared.completion.Queue.{Queue}
-use Rattle.verbs_model.specs.declared.completion.Queue.TheVariants as queues
-use Rattle.verbs_model.specs.declared.declaration.Lines.{Lines}
-use Rattle.verbs_model.specs.declared.entry.What.TheVariants.{Post, PostFull}
-use Rattle.verbs_model.specs.declared.request.Item.{Item}
-use Rattle.verbs_model.specs.Answered.{Due, Posting, Accepting}
-use Rattle.verbs_model.specs.Rows.{item_fits}
-use Rattle.verbs_model.specs.Proper.{Owes}
-use Rattle.verbs_model.specs.Sane.{Bounds, Sane, Goes}
-use Rattle.verbs_model.specs.State.{Verbs}
-use Rattle.verbs_model.proofs.GoesPost.{posting_shown, accepting_shown, full_shown}
-use Rattle.verbs_model.proofs.GoesReceive.{receiving_goes, receiving_accepted_goes, receiving_full_goes}
+use Rattle.verbs_types.specs.declared.completion.Queue.{Queue}
+use Rattle.verbs_types.specs.declared.completion.Queue.TheVariants as queues
+use Rattle.verbs_types.specs.declared.declaration.Lines.{Lines}
+use Rattle.verbs_types.specs.declared.entry.What.TheVariants.{Post, PostFull}
+use Rattle.verbs_types.specs.declared.request.Item.{Item}
+use Rattle.verbs_rules.specs.Answered.{Due, Posting, Accepting}
+use Rattle.verbs_rules.specs.Rows.{item_fits}
+use Rattle.verbs_rules.specs.Proper.{Owes}
+use Rattle.verbs_rules.specs.Sane.{Bounds, Sane, Goes}
+use Rattle.verbs_rules.specs.State.{Verbs}
+use Rattle.verbs_laws.proofs.GoesPost.{posting_shown, accepting_shown, full_shown}
+use Rattle.verbs_laws.proofs.GoesReceive.{receiving_goes, receiving_accepted_goes, receiving_full_goes}
 use Rattle.actor_rules.proofs.Queues.{QueueLives}
 
 module _ (d : Lines) (n : ℕ) (bounds : Bounds) (v : Verbs) (dues : List (List Due)) (t : ℕ) (items : List Item) (rest : List Due) (sane : Sane n bounds v dues) where

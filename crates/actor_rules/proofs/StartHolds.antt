@@ -6,22 +6,22 @@ use Rattle.std.proofs.lemmas.Bool.{and_parts, ltb-true, cond_both}
 use Rattle.std.proofs.lemmas.Option.{slice_get-get_or}
 use Rattle.std.proofs.lemmas.List.{length-map}
 use Rattle.bus_core.specs.Trace.{Memory}
-use Rattle.verbs_model.specs.declared.call.Call.{Call}
-use Rattle.verbs_model.specs.declared.call.Call.TheVariants.{Post, Recv, Poll, Drain}
-use Rattle.verbs_model.specs.declared.completion.Queue.{Queue}
-use Rattle.verbs_model.specs.declared.completion.Queue.TheVariants as queues
-use Rattle.verbs_model.specs.declared.declaration.Lines.{Lines}
-use Rattle.verbs_model.specs.declared.declaration.QpLine.{QpLine}
-use Rattle.verbs_model.specs.declared.state.Unpolled.{Unpolled}
-use Rattle.verbs_model.specs.declared.declaration.TheConstants.{FIRST_QP}
-use Rattle.verbs_model.specs.declared.request.Item.{Item}
-use Rattle.verbs_model.specs.declared.request.Item.TheVariants.{Request as TheRequest, Receive as TheReceive}
-use Rattle.verbs_model.specs.Answered.{Due, due_by}
-use Rattle.verbs_model.specs.Lines.{is_among, is_declared}
-use Rattle.verbs_model.specs.Same.{same_queue}
-use Rattle.verbs_model.specs.Start.{start, for_line, start_queue, start_pair, fresh_queue, no_queue, fresh_completions, no_completions}
-use Rattle.verbs_model.specs.State.{Verbs, WorkQueue, CompletionQueue}
-use Rattle.verbs_model.specs.Turned.{Running}
+use Rattle.verbs_types.specs.declared.call.Call.{Call}
+use Rattle.verbs_types.specs.declared.call.Call.TheVariants.{Post, Recv, Poll, Drain}
+use Rattle.verbs_types.specs.declared.completion.Queue.{Queue}
+use Rattle.verbs_types.specs.declared.completion.Queue.TheVariants as queues
+use Rattle.verbs_types.specs.declared.declaration.Lines.{Lines}
+use Rattle.verbs_types.specs.declared.declaration.QpLine.{QpLine}
+use Rattle.verbs_types.specs.declared.state.Unpolled.{Unpolled}
+use Rattle.verbs_types.specs.declared.declaration.TheConstants.{FIRST_QP}
+use Rattle.verbs_types.specs.declared.request.Item.{Item}
+use Rattle.verbs_types.specs.declared.request.Item.TheVariants.{Request as TheRequest, Receive as TheReceive}
+use Rattle.verbs_rules.specs.Answered.{Due, due_by}
+use Rattle.verbs_types.specs.Lines.{is_among, is_declared}
+use Rattle.verbs_rules.specs.Same.{same_queue}
+use Rattle.verbs_rules.specs.Start.{start, for_line, start_queue, start_pair, fresh_queue, no_queue, fresh_completions, no_completions}
+use Rattle.verbs_rules.specs.State.{Verbs, WorkQueue, CompletionQueue}
+use Rattle.verbs_rules.specs.Running.{Running}
 use Rattle.actor_map.specs.Start.{start_words}
 use Rattle.cq_pair.specs.Queue as completions
 use Rattle.cq_pair.proofs.Law as completions_law
@@ -38,7 +38,7 @@ use Rattle.actor_rules.specs.Actors.{Actors, fresh_actors}
 use Rattle.actor_rules.specs.Polling.{place_in}
 use Rattle.device_engine.specs.State.{AdapterAt, Looking, Ending, send_cq, first_work, fresh_adapter}
 use Rattle.actor_rules.specs.Dues.{dues_at, thread_dues, call_dues}
-use Rattle.verbs_model.specs.Sane.{Bounds, Sane}
+use Rattle.verbs_rules.specs.Sane.{Bounds, Sane}
 use Rattle.provider_poll.specs.declared.state.PollState.TheVariants.{Idle}
 use Rattle.actor_rules.specs.Owners.{poster_of}
 use Rattle.actor_rules.proofs.Matching.{Match}

@@ -1,16 +1,16 @@
 -- What ties a thread to what it owes.
 use Rattle.std.proofs.Common.{◌≡◌, ◌≢◌, ℕ, ◌<◌, ◌≤◌, true, false, List, [], ◌∷◌, length, map, IsTrue, Option, None, Some}
 use Rattle.std.specs.List.{AllByRecursion, list_all}
-use Rattle.verbs_model.specs.declared.call.Call.{Call}
-use Rattle.verbs_model.specs.declared.call.Call.TheVariants.{Post, Recv, Poll, Drain}
-use Rattle.verbs_model.specs.declared.completion.Completion.{Completion}
-use Rattle.verbs_model.specs.declared.completion.Queue.{Queue}
-use Rattle.verbs_model.specs.declared.completion.Queue.TheVariants as queues
-use Rattle.verbs_model.specs.declared.declaration.Lines.{Lines}
-use Rattle.verbs_model.specs.declared.request.Item.{Item}
-use Rattle.verbs_model.specs.declared.request.Item.TheVariants.{Request as TheRequest, Receive as TheReceive}
-use Rattle.verbs_model.specs.Answered.{Due}
-use Rattle.verbs_model.specs.Rows.{item_fits}
+use Rattle.verbs_types.specs.declared.call.Call.{Call}
+use Rattle.verbs_types.specs.declared.call.Call.TheVariants.{Post, Recv, Poll, Drain}
+use Rattle.verbs_types.specs.declared.completion.Completion.{Completion}
+use Rattle.verbs_types.specs.declared.completion.Queue.{Queue}
+use Rattle.verbs_types.specs.declared.completion.Queue.TheVariants as queues
+use Rattle.verbs_types.specs.declared.declaration.Lines.{Lines}
+use Rattle.verbs_types.specs.declared.request.Item.{Item}
+use Rattle.verbs_types.specs.declared.request.Item.TheVariants.{Request as TheRequest, Receive as TheReceive}
+use Rattle.verbs_rules.specs.Answered.{Due}
+use Rattle.verbs_rules.specs.Rows.{item_fits}
 use Rattle.counted_ring.specs.Poster.{Poster, Ready}
 use Rattle.object_places.specs.Objects.{Lives, Completions, Sends}
 use Rattle.object_places.specs.Places.{qp_line}
@@ -22,7 +22,7 @@ use Rattle.provider_poll.specs.declared.state.PollState.TheVariants as states
 use Rattle.actor_rules.specs.Ready.{IsOwnCall}
 use Rattle.actor_rules.specs.Thread.{Thread}
 use Rattle.actor_rules.specs.Dues.{thread_dues}
-use Rattle.verbs_model.specs.Proper.{IsNop}
+use Rattle.verbs_rules.specs.Proper.{IsNop}
 
 -- how far a post of so many items has come
 pub record IsPosting (items : ℕ) (poster : Poster) (call : post.Call) : Type 0 where

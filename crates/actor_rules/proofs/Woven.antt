@@ -10,19 +10,19 @@ use Rattle.bus_core.specs.Mark.{Marked, entries}
 use Rattle.bus_core.specs.Trace.{Memory, IsConsistent, Tells, after_entry}
 use Rattle.bus_core.specs.Weave.{TellsApart, spelled}
 use Rattle.bus_core.proofs.Weaving as weaving
-use Rattle.verbs_model.specs.declared.call.Call.{Call}
-use Rattle.verbs_model.specs.declared.declaration.Lines.{Lines}
-use Rattle.verbs_model.specs.declared.entry.Entry.{Entry}
-use Rattle.verbs_model.specs.declared.entry.What.{What}
-use Rattle.verbs_model.specs.Answered.{Due, MayAnswer, after_answer, own_entries}
-use Rattle.verbs_model.specs.Legal.{IsLegal}
-use Rattle.verbs_model.specs.Step.{MayStep, after_entry as step}
-use Rattle.verbs_model.specs.Turned.{Running, after_turn}
+use Rattle.verbs_types.specs.declared.call.Call.{Call}
+use Rattle.verbs_types.specs.declared.declaration.Lines.{Lines}
+use Rattle.verbs_types.specs.declared.entry.Entry.{Entry}
+use Rattle.verbs_types.specs.declared.entry.What.{What}
+use Rattle.verbs_rules.specs.Answered.{Due, MayAnswer, after_answer, own_entries}
+use Rattle.verbs_rules.specs.Legal.{IsLegal}
+use Rattle.verbs_rules.specs.Step.{MayStep, after_entry as step}
+use Rattle.verbs_rules.specs.Running.{Running, after_turn}
 use Rattle.object_places.specs.Objects.{Mark}
 use Rattle.actor_rules.specs.Actors.{Actors, Knows, part, May, MayAny, next, after, after_by, says}
 use Rattle.actor_rules.specs.Run.{own}
 use Rattle.actor_rules.proofs.Holding.{Holds, Goes, IsDue, MayTurn, Step}
-use Rattle.verbs_model.specs.Sane.{Bounds}
+use Rattle.verbs_rules.specs.Sane.{Bounds}
 
 actor_of : Marked Mark → ℕ
 actor_of x = x.entry.actor

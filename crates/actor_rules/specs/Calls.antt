@@ -3,12 +3,12 @@
 use Rattle.std.specs.Prelude.{ℕ, ◌≡◌, ◌^◌, true, false, List, [], ◌∷◌, length, map, Option, None}
 use Rattle.bus_core.specs.Mark.{Marked}
 use Rattle.bus_core.specs.Operation.{IsSetBits}
-use Rattle.verbs_model.specs.declared.call.Call.{Call}
-use Rattle.verbs_model.specs.declared.call.Call.TheVariants.{Post, Recv, Poll, Drain}
-use Rattle.verbs_model.specs.declared.completion.Queue.TheVariants as queues
-use Rattle.verbs_model.specs.declared.declaration.Lines.{Lines}
-use Rattle.verbs_model.specs.declared.entry.What.{What}
-use Rattle.verbs_model.specs.declared.request.Item.TheVariants.{Request as TheRequest, Receive as TheReceive}
+use Rattle.verbs_types.specs.declared.call.Call.{Call}
+use Rattle.verbs_types.specs.declared.call.Call.TheVariants.{Post, Recv, Poll, Drain}
+use Rattle.verbs_types.specs.declared.completion.Queue.TheVariants as queues
+use Rattle.verbs_types.specs.declared.declaration.Lines.{Lines}
+use Rattle.verbs_types.specs.declared.entry.What.{What}
+use Rattle.verbs_types.specs.declared.request.Item.TheVariants.{Request as TheRequest, Receive as TheReceive}
 use Rattle.object_places.specs.Objects.{Mark, Ends}
 use Rattle.object_places.specs.declared.ended.TheConstants.{ENDED_WORD}
 use Rattle.actor_rules.specs.Thread.{Thread}

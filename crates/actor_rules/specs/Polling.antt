@@ -4,13 +4,13 @@ use Rattle.bus_core.specs.declared.operation.BusEntry.{BusEntry}
 use Rattle.bus_core.specs.declared.turn.Step.{Step}
 use Rattle.bus_core.specs.declared.turn.Step.TheVariants.{More, Gave, Done}
 use Rattle.bus_core.specs.Mark.{Marked}
-use Rattle.verbs_model.specs.declared.call.Call.{Call}
-use Rattle.verbs_model.specs.declared.call.Call.TheVariants.{Drain}
-use Rattle.verbs_model.specs.declared.completion.Completion.{Completion}
-use Rattle.verbs_model.specs.declared.completion.Queue.TheVariants.{Send}
-use Rattle.verbs_model.specs.declared.declaration.Lines.{Lines}
-use Rattle.verbs_model.specs.declared.entry.What.{What}
-use Rattle.verbs_model.specs.declared.entry.What.TheVariants.{Poll, Retire, Ack}
+use Rattle.verbs_types.specs.declared.call.Call.{Call}
+use Rattle.verbs_types.specs.declared.call.Call.TheVariants.{Drain}
+use Rattle.verbs_types.specs.declared.completion.Completion.{Completion}
+use Rattle.verbs_types.specs.declared.completion.Queue.TheVariants.{Send}
+use Rattle.verbs_types.specs.declared.declaration.Lines.{Lines}
+use Rattle.verbs_types.specs.declared.entry.What.{What}
+use Rattle.verbs_types.specs.declared.entry.What.TheVariants.{Poll, Retire, Ack}
 use Rattle.cq_pair.specs.Mark as host
 use Rattle.counted_ring.specs.Mark as counted
 use Rattle.object_places.specs.Objects.{Mark, OnCompletions, OnSends, OnReceives, Ends}
@@ -18,9 +18,9 @@ use Rattle.provider_poll.specs.declared.answer.PollAnswer.{PollAnswer}
 use Rattle.provider_poll.specs.declared.answer.PollAnswer.TheVariants.{Polled}
 use Rattle.provider_poll.specs.declared.state.PollState.{PollState}
 use Rattle.provider_poll.specs.declared.state.PollState.TheVariants as states
-use Rattle.provider_poll.specs.declared.turned.Turned.{Turned}
+use Rattle.provider_poll.specs.declared.poll_step.PollStep.{PollStep}
 use Rattle.provider_poll.specs.Rule.{PollRule, PollMark, OnHost, OnQueue, MayPollSide}
-use Rattle.provider_poll.specs.RuleTurned.{poll_side_turned, after_poll_side}
+use Rattle.provider_poll.specs.RuleStep.{poll_side_step, after_poll_side}
 use Rattle.actor_rules.specs.Thread.{Thread, poll_place, completing}
 use Rattle.actor_rules.specs.Family.{put_number}
 
@@ -53,8 +53,8 @@ pub record MayPoll (d : Lines) (t : Thread) (cq most : ℕ) (x : Marked Mark) : 
   pub on : IsOnPolled d cq x.mark
   pub goes_on : MayPollSide (poll_place d cq) (poll_now t cq most) (poll_mark d cq x.mark) x.entry
 
-abbrev pub polled : Lines → Thread → ℕ → ℕ → Marked Mark → Turned
-polled d t cq most x = poll_side_turned (poll_place d cq) (poll_now t cq most) (poll_mark d cq x.mark) x.entry
+abbrev pub polled : Lines → Thread → ℕ → ℕ → Marked Mark → PollStep
+polled d t cq most x = poll_side_step (poll_place d cq) (poll_now t cq most) (poll_mark d cq x.mark) x.entry
 
 -- the completions that were given, with the one that the operation gives
 abbrev pub given_with : List Completion → Step Completion PollAnswer → List Completion

@@ -1,19 +1,19 @@
 -- Which programs may run: each call is its thread's own, and all calls together are within the limits.
 use Rattle.std.specs.Prelude.{ℕ, suc, ◌≡◌, ◌<◌, ◌≤◌, true, List, length, map, IsTrue}
 use Rattle.std.specs.List.{AllByRecursion, list_all, flat_map}
-use Rattle.verbs_model.specs.declared.call.Call.{Call}
-use Rattle.verbs_model.specs.declared.call.Call.TheVariants.{Post, Recv, Poll, Drain}
-use Rattle.verbs_model.specs.declared.completion.Queue.{Queue}
-use Rattle.verbs_model.specs.declared.completion.Queue.TheVariants as queues
-use Rattle.verbs_model.specs.declared.declaration.Lines.{Lines}
-use Rattle.verbs_model.specs.declared.request.Item.{Item}
-use Rattle.verbs_model.specs.declared.request.Item.TheVariants.{Request as TheRequest, Receive as TheReceive}
-use Rattle.verbs_model.specs.Answered.{Due, due_by}
-use Rattle.verbs_model.specs.Lines.{is_declared}
-use Rattle.verbs_model.specs.Proper.{IsNop}
-use Rattle.verbs_model.specs.Rows.{item_fits}
-use Rattle.verbs_model.specs.Sane.{Bounds, Sane}
-use Rattle.verbs_model.specs.Start.{start}
+use Rattle.verbs_types.specs.declared.call.Call.{Call}
+use Rattle.verbs_types.specs.declared.call.Call.TheVariants.{Post, Recv, Poll, Drain}
+use Rattle.verbs_types.specs.declared.completion.Queue.{Queue}
+use Rattle.verbs_types.specs.declared.completion.Queue.TheVariants as queues
+use Rattle.verbs_types.specs.declared.declaration.Lines.{Lines}
+use Rattle.verbs_types.specs.declared.request.Item.{Item}
+use Rattle.verbs_types.specs.declared.request.Item.TheVariants.{Request as TheRequest, Receive as TheReceive}
+use Rattle.verbs_rules.specs.Answered.{Due, due_by}
+use Rattle.verbs_types.specs.Lines.{is_declared}
+use Rattle.verbs_rules.specs.Proper.{IsNop}
+use Rattle.verbs_rules.specs.Rows.{item_fits}
+use Rattle.verbs_rules.specs.Sane.{Bounds, Sane}
+use Rattle.verbs_rules.specs.Start.{start}
 use Rattle.object_places.specs.Objects.{Lives, Completions, Sends}
 use Rattle.object_places.specs.Places.{qp_line}
 use Rattle.actor_rules.specs.Owners.{poster_of, poller_of}

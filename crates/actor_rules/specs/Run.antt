@@ -4,12 +4,12 @@ use Rattle.bus_core.specs.Follow.{Follows}
 use Rattle.bus_core.specs.Mark.{Marked, entries}
 use Rattle.bus_core.specs.Trace.{IsConsistent}
 use Rattle.bus_core.specs.Weave.{spelled}
-use Rattle.verbs_model.specs.declared.call.Call.{Call}
-use Rattle.verbs_model.specs.declared.declaration.Lines.{Lines}
-use Rattle.verbs_model.specs.declared.entry.Entry.{Entry}
-use Rattle.verbs_model.specs.Start.{start}
-use Rattle.verbs_model.specs.Answered.{IsAnswered, own_entries}
-use Rattle.verbs_model.specs.Legal.{IsLegal}
+use Rattle.verbs_types.specs.declared.call.Call.{Call}
+use Rattle.verbs_types.specs.declared.declaration.Lines.{Lines}
+use Rattle.verbs_types.specs.declared.entry.Entry.{Entry}
+use Rattle.verbs_rules.specs.Start.{start}
+use Rattle.verbs_rules.specs.Answered.{IsAnswered, own_entries}
+use Rattle.verbs_rules.specs.Legal.{IsLegal}
 use Rattle.actor_map.specs.Start.{start_words}
 use Rattle.object_places.specs.Objects.{Mark}
 use Rattle.actor_rules.specs.Thread.{program_of}

@@ -6,7 +6,7 @@ use Rattle.prm_fields.specs.Bits.{field_value}
 use Rattle.prm_fields.specs.Spelling.{Spells}
 use Rattle.prm_fields.specs.declared.layout.LayoutName.TheVariants.{Cqe as CqeLayout, CqeErr, EqeCq, EqeError}
 use Rattle.prm_fields.proofs.Chains.{Put, put_of, Chain, all_hold, untouched, is_apart, field_value-zeros}
-use Rattle.verbs_model.specs.declared.completion.EventRecord.TheVariants.{Completion, CqError}
+use Rattle.verbs_types.specs.declared.completion.EventRecord.TheVariants.{Completion, CqError}
 use Rattle.cqe_format.specs.Event.{eqe_field}
 use Rattle.cqe_format.specs.declared.completion.Cqe.{Cqe}
 use Rattle.cqe_format.specs.Opcode.{is_request, is_error}

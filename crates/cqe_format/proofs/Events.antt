@@ -4,8 +4,8 @@ use Rattle.std.proofs.lemmas.Bool.{cases_lt}
 use Rattle.prm_fields.specs.Bits.{field_value}
 use Rattle.prm_fields.proofs.Values.{field_value_in_byte}
 use Rattle.prm_fields.proofs.Parts.{byte_value}
-use Rattle.verbs_model.specs.declared.completion.EventRecord.{EventRecord}
-use Rattle.verbs_model.specs.declared.completion.EventRecord.TheVariants.{Completion, CqError}
+use Rattle.verbs_types.specs.declared.completion.EventRecord.{EventRecord}
+use Rattle.verbs_types.specs.declared.completion.EventRecord.TheVariants.{Completion, CqError}
 use Rattle.cqe_format.specs.Bytes.{BeginAlike, IsFirstWrong}
 use Rattle.cqe_format.specs.Search.{IsClear, IsSetAround}
 use Rattle.cqe_format.specs.Event.{IsEqe, IsSomeEqe, event_type}

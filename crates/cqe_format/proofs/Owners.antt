@@ -16,8 +16,8 @@ use Rattle.prm_fields.specs.declared.layout.LayoutName.{LayoutName}
 use Rattle.prm_fields.specs.declared.layout.LayoutName.TheVariants.{Cqe as CqeLayout, CqeErr, EqeCq, EqeError}
 use Rattle.prm_fields.proofs.Values.{field_value-same}
 use Rattle.prm_fields.proofs.Spelling.{bits_from_value}
-use Rattle.verbs_model.specs.declared.completion.EventRecord.{EventRecord}
-use Rattle.verbs_model.specs.declared.completion.EventRecord.TheVariants.{Completion, CqError}
+use Rattle.verbs_types.specs.declared.completion.EventRecord.{EventRecord}
+use Rattle.verbs_types.specs.declared.completion.EventRecord.TheVariants.{Completion, CqError}
 use Rattle.cqe_format.specs.declared.completion.Cqe.{Cqe}
 use Rattle.cqe_format.specs.Bytes.{entry_bytes, with_owner}
 use Rattle.cqe_format.specs.Opcode.{is_error}

@@ -4,8 +4,8 @@ use Rattle.std.proofs.lemmas.Bool.{cases_Bool, or_cases, eqb-true}
 use Rattle.prm_fields.specs.Bits.{field_value}
 use Rattle.prm_fields.specs.Spelling.{Spells}
 use Rattle.prm_fields.specs.declared.layout.LayoutName.TheVariants.{Cqe as CqeLayout, CqeErr}
-use Rattle.verbs_model.specs.declared.completion.EventRecord.{EventRecord}
-use Rattle.verbs_model.specs.declared.completion.EventRecord.TheVariants.{Completion, CqError}
+use Rattle.verbs_types.specs.declared.completion.EventRecord.{EventRecord}
+use Rattle.verbs_types.specs.declared.completion.EventRecord.TheVariants.{Completion, CqError}
 use Rattle.cqe_format.specs.declared.completion.Cqe.{Cqe}
 use Rattle.cqe_format.specs.Opcode.{is_error, has_imm, has_len}
 use Rattle.cqe_format.specs.Completion.{IsCompletion, IsCqe, layout_of, cqe_field}

@@ -6,8 +6,8 @@ use Rattle.prm_fields.specs.declared.layout.LayoutName.{LayoutName}
 use Rattle.prm_fields.specs.declared.layout.LayoutName.TheVariants.{EqeCq, EqeError}
 use Rattle.prm_fields.specs.declared.layout.FieldName.{FieldName}
 use Rattle.prm_fields.specs.declared.layout.FieldName.TheVariants.{TypeByte, Cqn, Owner}
-use Rattle.verbs_model.specs.declared.completion.EventRecord.{EventRecord}
-use Rattle.verbs_model.specs.declared.completion.EventRecord.TheVariants.{Completion, CqError}
+use Rattle.verbs_types.specs.declared.completion.EventRecord.{EventRecord}
+use Rattle.verbs_types.specs.declared.completion.EventRecord.TheVariants.{Completion, CqError}
 
 -- the layout of an event, its type and the number of its completion queue
 abbrev pub event_layout : EventRecord → LayoutName

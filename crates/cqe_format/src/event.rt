@@ -6,12 +6,12 @@ ghost use Rattle.prm_fields.specs.declared.layout.LayoutName.TheVariants.{EqeCq,
 ghost use Rattle.cqe_format.specs.Bytes.{IsFirstWrong};
 ghost use Rattle.cqe_format.specs.Bytes.{entry_bytes as bytes_of_words};
 ghost use Rattle.cqe_format.specs.Event.{IsEqe, IsSomeEqe, eqe_field};
-ghost use Rattle.verbs_model.specs.declared.completion.EventRecord.{EventRecord};
+ghost use Rattle.verbs_types.specs.declared.completion.EventRecord.{EventRecord};
 
 use crate::bytes::{entry_bytes, entry_words};
 use crate::search::{NotAnEntry, wrong_event_byte};
 use prm_fields::{LayoutName, eqe_cq_rows, eqe_error_rows, field_of, reserved_clear};
-use verbs_model::EventRecord;
+use verbs_types::EventRecord;
 
 // The type of an event of a completion (Programmer's Reference Manual).
 pub(crate) const COMPLETION: u8 = 0;

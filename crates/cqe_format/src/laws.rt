@@ -6,12 +6,12 @@ ghost use Rattle.cqe_format.specs.Bytes.{entry_bytes, with_owner};
 ghost use Rattle.cqe_format.specs.Completion.{IsCompletion, IsCqe};
 ghost use Rattle.cqe_format.specs.Event.{IsEqe};
 ghost use Rattle.cqe_format.specs.declared.completion.Cqe.{Cqe};
-ghost use Rattle.verbs_model.specs.declared.completion.EventRecord.{EventRecord};
+ghost use Rattle.verbs_types.specs.declared.completion.EventRecord.{EventRecord};
 
 use crate::completion::{Cqe, decode_cqe, encode_cqe};
 use crate::event::{decode_eqe, encode_eqe};
 use crate::search::NotAnEntry;
-use verbs_model::EventRecord;
+use verbs_types::EventRecord;
 
 /// No bytes spell two completions, or two events.
 pub fn one_value()

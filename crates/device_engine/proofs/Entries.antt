@@ -3,8 +3,8 @@ use Rattle.std.proofs.Common.{◌≡◌, ℕ, ◌*◌, ◌/◌, ◌%◌, ◌^◌
 use Rattle.std.specs.Prelude.{slice_index}
 use Rattle.std.proofs.lemmas.List.{get_or-take}
 use Rattle.prm_fields.proofs.Parts.{byte_value}
-use Rattle.verbs_model.specs.declared.request.Op.TheVariants.{Nop}
-use Rattle.verbs_model.specs.declared.request.Request.{Request}
+use Rattle.verbs_types.specs.declared.request.Op.TheVariants.{Nop}
+use Rattle.verbs_types.specs.declared.request.Request.{Request}
 use Rattle.work_entries.specs.declared.units.SendWords.{SendWords}
 use Rattle.work_entries.specs.Opcode.{opcode_of, opcode_number, fixed_units}
 use Rattle.work_entries.specs.Control.{flags_of}

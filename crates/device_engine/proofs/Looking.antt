@@ -4,8 +4,8 @@ use Rattle.std.proofs.lemmas.Bool.{and_parts}
 use Rattle.std.proofs.lemmas.Option.{slice_get_within}
 use Rattle.bus_core.specs.declared.operation.BusEntry.{BusEntry}
 use Rattle.bus_core.specs.Operation.{loaded}
-use Rattle.verbs_model.specs.declared.declaration.Lines.{Lines}
-use Rattle.verbs_model.specs.declared.declaration.TheConstants.{FIRST_QP}
+use Rattle.verbs_types.specs.declared.declaration.Lines.{Lines}
+use Rattle.verbs_types.specs.declared.declaration.TheConstants.{FIRST_QP}
 use Rattle.counted_ring.specs.declared.place.WqPlace.{WqPlace}
 use Rattle.counted_ring.specs.Device.{WqReader, MayLook, MayRecord, after_look, after_record}
 use Rattle.counted_ring.specs.Place.{touches}
@@ -13,14 +13,14 @@ use Rattle.object_places.specs.Places.{send_of}
 use Rattle.device_engine.specs.declared.pair.Pair.{Pair}
 use Rattle.device_engine.specs.declared.scan.Work.{Work}
 use Rattle.device_engine.specs.declared.scan.Work.TheVariants as works
-use Rattle.device_engine.specs.declared.told.Comes.{Comes}
-use Rattle.device_engine.specs.declared.told.Comes.TheVariants.{Record}
+use Rattle.device_engine.specs.declared.outcome.NextWork.{NextWork}
+use Rattle.device_engine.specs.declared.outcome.NextWork.TheVariants.{Record}
 use Rattle.device_engine.specs.Goes.{goes}
 use Rattle.device_engine.specs.Pair.{CanLook, Looks, Records, with_side}
 use Rattle.device_engine.specs.Rows.{read_or_next, after_looking, after_recording}
 use Rattle.device_engine.specs.Scan.{IsPair, IsScan, Idle}
 use Rattle.device_engine.specs.State.{AdapterRule, Recording, working, with_reader}
-use Rattle.device_engine.specs.Told.{comes_ready, comes_looked, comes_recorded}
+use Rattle.device_engine.specs.NextWork.{comes_ready, comes_looked, comes_recorded}
 use Rattle.device_engine.specs.Event.{notes}
 use Rattle.device_engine.specs.Rule.{mark_at, MayAt, after_at, said_at}
 use Rattle.device_engine.specs.Seen.{seen_at}
@@ -92,7 +92,7 @@ module _ (v : ScanView) (p : Pair) (e : BusEntry) (found : slice_get v.pairs v.v
       ∙ (ap (λ (x : AdapterRule). cond (loaded e == r.register) (read_or_next d r x) (working Recording x)) (side_moved v p found (with_side p (after_look r e) None) (after_look r e) refl refl)
       ∙ ap looking_from (sym (reader_is v p found))))
 
-  module _ (p' : Pair) (comes : Comes) (l : Looks p p' e comes) (work : v.work ≡ works.Looking) where
+  module _ (p' : Pair) (comes : NextWork) (l : Looks p p' e comes) (work : v.work ≡ works.Looking) where
     stands_look : Stands (with_pair v p') comes
     stands_look = subst (λ (q : Pair). Stands (with_pair v q) comes) (sym l.pair) (subst (Stands (after (after_look r e))) (sym l.comes_is) (stands_looked (loaded e == r.register)))
 
@@ -100,7 +100,7 @@ module _ (v : ScanView) (p : Pair) (e : BusEntry) (found : slice_get v.pairs v.v
     look_operates = record {
       may = subst (λ (w : Work). MayAt d rule (at_of w) e) (sym work) (subst (λ (q : WqReader). MayLook (send_of d rule.visit) q e) (sym (reader_is v p found)) (subst (λ (pl : WqPlace). MayLook pl r e) pair.place l.may));
       inside = subst (λ (w : Work). is_about d (mark_at rule (at_of w)) e.addr ≡ true) (sym work) (subst (λ (pl : WqPlace). touches pl e.addr ≡ true) pair.place l.inside);
-      rule = ap (λ (c : Comes). goes d c (rule_of (with_pair v p'))) l.comes_is
+      rule = ap (λ (c : NextWork). goes d c (rule_of (with_pair v p'))) l.comes_is
           ∙ (ap (λ (q : Pair). goes d (comes_looked p.may_send r e) (rule_of (with_pair v q))) l.pair
           ∙ (rule_looked ∙ ap (λ (w : Work). after_at d rule (at_of w) e) (sym work)));
       note_is = ap (λ (w : Work). notes (seen_of v) (said_at d rule (at_of w) e)) (sym work);
@@ -121,7 +121,7 @@ module _ (v : ScanView) (p : Pair) (e : BusEntry) (found : slice_get v.pairs v.v
       ∙ (ap (read_or_next d recorded) (side_moved v p found (with_side p recorded None) recorded refl refl)
       ∙ ap (λ (q : WqReader). read_or_next d (after_record q false e) (with_reader (after_record q false e) rule)) (sym (reader_is v p found)))
 
-  module _ (p' : Pair) (comes : Comes) (l : Records p p' e comes) (work : v.work ≡ works.Recording) where
+  module _ (p' : Pair) (comes : NextWork) (l : Records p p' e comes) (work : v.work ≡ works.Recording) where
     stands_record : Stands (with_pair v p') comes
     stands_record =
         let ready = p.may_send && nat_lt 0 recorded.ready in
@@ -132,7 +132,7 @@ module _ (v : ScanView) (p : Pair) (e : BusEntry) (found : slice_get v.pairs v.v
     record_operates = record {
       may = subst (λ (w : Work). MayAt d rule (at_of w) e) (sym work) (subst (λ (q : WqReader). MayRecord (send_of d rule.visit) q false e) (sym (reader_is v p found)) (subst (λ (pl : WqPlace). MayRecord pl r false e) pair.place l.may));
       inside = subst (λ (w : Work). is_about d (mark_at rule (at_of w)) e.addr ≡ true) (sym work) (subst (λ (pl : WqPlace). touches pl e.addr ≡ true) pair.place l.inside);
-      rule = ap (λ (c : Comes). goes d c (rule_of (with_pair v p'))) l.comes_is
+      rule = ap (λ (c : NextWork). goes d c (rule_of (with_pair v p'))) l.comes_is
           ∙ (ap (λ (q : Pair). goes d (comes_recorded p.may_send r e) (rule_of (with_pair v q))) l.pair
           ∙ (rule_recorded ∙ ap (λ (w : Work). after_at d rule (at_of w) e) (sym work)));
       note_is = ap (λ (w : Work). notes (seen_of v) (said_at d rule (at_of w) e)) (sym work);

@@ -5,8 +5,8 @@ use Rattle.std.proofs.lemmas.Bool.{cases_Bool, cond-true, cond-false, eqb-false}
 use Rattle.std.proofs.lemmas.Bool.{le-leb, lt-ltb}
 use Rattle.std.proofs.lemmas.List.{get_or-set_same}
 use Rattle.std.proofs.lemmas.Option.{slice_get_within, slice_get-get_or}
-use Rattle.verbs_model.specs.Lines.{is_among}
-use Rattle.verbs_model.proofs.Families.{among, put_at, put_beside}
+use Rattle.verbs_types.specs.Lines.{is_among}
+use Rattle.verbs_laws.proofs.Families.{among, put_at, put_beside}
 use Rattle.device_engine.specs.State.{put_number}
 use Rattle.device_engine.specs.View.{by_number}
 

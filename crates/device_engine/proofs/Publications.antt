@@ -4,7 +4,7 @@ use Rattle.std.proofs.lemmas.Option.{slice_get_read, slice_get_within}
 use Rattle.bus_core.specs.declared.operation.BusEntry.{BusEntry}
 use Rattle.bus_core.specs.Port.{Port}
 use Rattle.std.specs.declared.snapshot.Snapshot.{Snapshot}
-use Rattle.verbs_model.specs.declared.declaration.Lines.{Lines}
+use Rattle.verbs_types.specs.declared.declaration.Lines.{Lines}
 use Rattle.actor_map.specs.Sizes.{words_of}
 use Rattle.cqe_format.specs.declared.completion.Cqe.{Cqe}
 use Rattle.owner_ring.specs.Place as ring
@@ -17,8 +17,8 @@ use Rattle.cq_pair.specs.Queue.{QueueEvent, Published, Overrun, Lost, Took, Empt
 use Rattle.object_places.specs.Places.{completions_of, AreWithin}
 use Rattle.device_engine.specs.declared.scan.Work.{Work}
 use Rattle.device_engine.specs.declared.scan.Work.TheVariants as works
-use Rattle.device_engine.specs.declared.told.Comes.TheVariants.{Next}
-use Rattle.device_engine.specs.declared.told.Told.{Told}
+use Rattle.device_engine.specs.declared.outcome.NextWork.TheVariants.{Next}
+use Rattle.device_engine.specs.declared.outcome.Outcome.{Outcome}
 use Rattle.device_engine.specs.Event.{event_note, notes, publish_said}
 use Rattle.device_engine.specs.Event as events
 use Rattle.device_engine.specs.Goes.{goes, told_published}
@@ -91,7 +91,7 @@ module _ (v : ScanView) (cq : ℕ) (kept : Snapshot Cqe) (q : DeviceView) (found
   seen_is : q.seen ≡ seen_of v cq
   seen_is = sym (subst (λ (k : ℕ). seen_of v k ≡ q.seen) (zero-add cq) (by_at 0 seen_in nothing_seen v.queues cq q found))
 
-  module _ (q' : DeviceView) (told : Told) (e : BusEntry) (m : Publishes cq q q' e told) (visit : v.visit < length v.pairs) where
+  module _ (q' : DeviceView) (told : Outcome) (e : BusEntry) (m : Publishes cq q q' e told) (visit : v.visit < length v.pairs) where
     abbrev event : Option QueueEvent
     event = publish_event d rule cq c e
 
@@ -157,7 +157,7 @@ module _ (v : ScanView) (cq : ℕ) (kept : Snapshot Cqe) (q : DeviceView) (found
     stands_by (Some (Acked ci)) task = over task
 
     stands : Stands after told.comes
-    stands = subst (Stands after) (sym (ap (λ (t : Told). t.comes) told_is)) (stands_by event (m.task ∙ ap (task_left q.task) event_is))
+    stands = subst (Stands after) (sym (ap (λ (t : Outcome). t.comes) told_is)) (stands_by event (m.task ∙ ap (task_left q.task) event_is))
 
     abbrev may_from : CqPlace → QueueDevice → Option Cqe → Type 0
     may_from pl x task = MayDeliver pl x (mark_of task x.overrun) e
@@ -171,9 +171,9 @@ module _ (v : ScanView) (cq : ℕ) (kept : Snapshot Cqe) (q : DeviceView) (found
     publish_operates = record {
       may = subst (λ (w : Work). MayAt d rule (at_of w) e) (sym work) may;
       inside = subst (λ (w : Work). is_about d (mark_at rule (at_of w)) e.addr ≡ true) (sym work) (subst (λ (pl : CqPlace). ring.touches (ring_of pl) e.addr ≡ true) is_queue.place m.inside);
-      rule = ap (λ (t : Told). goes d t.comes (rule_of after)) told_is
+      rule = ap (λ (t : Outcome). goes d t.comes (rule_of after)) told_is
           ∙ (published_row event d (rule_of after) cq q'.seen ∙ (ap (published d event) moved ∙ ap (λ (w : Work). after_at d rule (at_of w) e) (sym work)));
-      note_is = ap (λ (t : Told). t.note) told_is
+      note_is = ap (λ (t : Outcome). t.note) told_is
           ∙ (published_note event cq q'.seen (rule.taken rule.visit) (seen_of after) seen_new ∙ ap (λ (w : Work). notes (seen_of after) (said_at d rule (at_of w) e)) (sym work));
       seen = seen_moved ∙ ap (λ (w : Work). seen_at rule (seen_of v) (at_of w) e) (sym work);
       scan = stands.scan;

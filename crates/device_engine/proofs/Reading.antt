@@ -5,8 +5,8 @@ use Rattle.std.proofs.lemmas.Option.{slice_get_within}
 use Rattle.bus_core.specs.declared.operation.BusEntry.{BusEntry}
 use Rattle.bus_core.specs.declared.turn.Note.{Note}
 use Rattle.bus_core.specs.Operation.{loaded}
-use Rattle.verbs_model.specs.declared.declaration.Lines.{Lines}
-use Rattle.verbs_model.specs.declared.declaration.TheConstants.{FIRST_QP}
+use Rattle.verbs_types.specs.declared.declaration.Lines.{Lines}
+use Rattle.verbs_types.specs.declared.declaration.TheConstants.{FIRST_QP}
 use Rattle.cqe_format.specs.Completion.{IsCompletion}
 use Rattle.cq_pair.specs.DeviceView as queue
 use Rattle.cq_pair.specs.Device.{QueueDevice}
@@ -20,8 +20,8 @@ use Rattle.object_places.specs.Places.{send_of}
 use Rattle.device_engine.specs.declared.pair.Pair.{Pair}
 use Rattle.device_engine.specs.declared.scan.Work.{Work}
 use Rattle.device_engine.specs.declared.scan.Work.TheVariants as works
-use Rattle.device_engine.specs.declared.told.Comes.TheVariants.{Publish, Next}
-use Rattle.device_engine.specs.declared.told.Told.{Told}
+use Rattle.device_engine.specs.declared.outcome.NextWork.TheVariants.{Publish, Next}
+use Rattle.device_engine.specs.declared.outcome.Outcome.{Outcome}
 use Rattle.device_engine.specs.Entry.{wants, nop_cqe}
 use Rattle.device_engine.specs.Event.{notes, fetch_said}
 use Rattle.device_engine.specs.Goes.{goes}
@@ -31,7 +31,7 @@ use Rattle.device_engine.specs.Rule.{mark_at, MayAt, after_at, said_at}
 use Rattle.device_engine.specs.Scan.{IsPair, IsReading, IsScan, IsThere, Idle, ReadsPair, CanPublish, task_of}
 use Rattle.device_engine.specs.Seen.{seen_at}
 use Rattle.device_engine.specs.State.{AdapterRule, Publishing, reader, working, next_visit, with_reader, with_taken, send_cq, fresh_adapter}
-use Rattle.device_engine.specs.Told.{comes_asked, fetch_note, told_read}
+use Rattle.device_engine.specs.NextWork.{comes_asked, fetch_note, told_read}
 use Rattle.device_engine.specs.Turn.{Operates, is_about}
 use Rattle.device_engine.specs.Counts.{CountsBelow}
 use Rattle.device_engine.specs.View.{ScanView, at_of, rule_of, seen_of}
@@ -196,7 +196,7 @@ module _ (v : ScanView) (p : Pair) (e : BusEntry) (found : slice_get v.pairs v.v
       stands = stands_taken (wants words);
     }
 
-  module _ (p' : Pair) (told : Told) (m : Reads p p' e told) (work : v.work ≡ works.Reading) where
+  module _ (p' : Pair) (told : Outcome) (m : Reads p p' e told) (work : v.work ≡ works.Reading) where
     abbrev event_by : Bool → Option WqEvent
     event_by whole = cond whole (Some (Took words)) None
 
@@ -208,7 +208,7 @@ module _ (v : ScanView) (p : Pair) (e : BusEntry) (found : slice_get v.pairs v.v
     comes_to = by_whole (is_whole place r.ready words) refl m.task m.pair
 
     stands_read : Stands (with_pair v p') told.comes
-    stands_read = subst (Stands (with_pair v p')) (sym (ap (λ (t : Told). t.comes) m.told_is)) comes_to.stands
+    stands_read = subst (Stands (with_pair v p')) (sym (ap (λ (t : Outcome). t.comes) m.told_is)) comes_to.stands
 
     abbrev note_from : WqPlace → WqReader → Option Note
     note_from pl q = notes (seen_of v) (fetch_said rule.visit (rule.taken rule.visit + 1) (read_says pl q e))
@@ -217,8 +217,8 @@ module _ (v : ScanView) (p : Pair) (e : BusEntry) (found : slice_get v.pairs v.v
     read_operates = record {
       may = subst (λ (w : Work). MayAt d rule (at_of w) e) (sym work) (subst (λ (q : WqReader). MayRead (send_of d rule.visit) q e) (sym (reader_is v p found)) (subst (λ (pl : WqPlace). MayRead pl r e) pair.place m.may));
       inside = subst (λ (w : Work). is_about d (mark_at rule (at_of w)) e.addr ≡ true) (sym work) (subst (λ (pl : WqPlace). touches pl e.addr ≡ true) pair.place m.inside);
-      rule = ap (λ (t : Told). goes d t.comes (rule_of (with_pair v p'))) m.told_is ∙ (comes_to.rule_is ∙ (from_rule ∙ ap (λ (w : Work). after_at d rule (at_of w) e) (sym work)));
-      note_is = ap (λ (t : Told). t.note) m.told_is
+      rule = ap (λ (t : Outcome). goes d t.comes (rule_of (with_pair v p'))) m.told_is ∙ (comes_to.rule_is ∙ (from_rule ∙ ap (λ (w : Work). after_at d rule (at_of w) e) (sym work)));
+      note_is = ap (λ (t : Outcome). t.note) m.told_is
           ∙ (comes_to.note_is
           ∙ (ap (note_from place) (sym (reader_is v p found)) ∙ (ap (λ (pl : WqPlace). note_from pl (reader rule)) pair.place ∙ ap (λ (w : Work). notes (seen_of v) (said_at d rule (at_of w) e)) (sym work))));
       seen = ap (λ (w : Work). seen_at rule (seen_of v) (at_of w) e) (sym work);

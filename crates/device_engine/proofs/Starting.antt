@@ -3,14 +3,14 @@ use Rattle.std.proofs.Common.{◌≡◌, ℕ, ◌+◌, ◌-◌, ◌^◌, ◌<◌
 use Rattle.std.specs.Option.{option_map_or}
 use Rattle.std.proofs.lemmas.Bool.{and_parts, cond-true}
 use Rattle.std.proofs.lemmas.Option.{slice_get-get_or}
-use Rattle.verbs_model.specs.declared.declaration.Lines.{Lines}
-use Rattle.verbs_model.specs.declared.declaration.QpLine.{QpLine}
-use Rattle.verbs_model.specs.declared.declaration.TheConstants.{FIRST_QP}
-use Rattle.verbs_model.specs.declared.state.QpState.TheVariants.{Reset, Rts}
-use Rattle.verbs_model.specs.declared.state.QueuePair.{QueuePair}
-use Rattle.verbs_model.specs.Lines.{is_among, is_declared}
-use Rattle.verbs_model.specs.Rows.{works}
-use Rattle.verbs_model.specs.Start.{is_connected, first_state, start_pair, no_pair}
+use Rattle.verbs_types.specs.declared.declaration.Lines.{Lines}
+use Rattle.verbs_types.specs.declared.declaration.QpLine.{QpLine}
+use Rattle.verbs_types.specs.declared.declaration.TheConstants.{FIRST_QP}
+use Rattle.verbs_types.specs.declared.state.QpState.TheVariants.{Reset, Rts}
+use Rattle.verbs_types.specs.declared.state.QueuePair.{QueuePair}
+use Rattle.verbs_types.specs.Lines.{is_among, is_declared}
+use Rattle.verbs_rules.specs.Rows.{works}
+use Rattle.verbs_rules.specs.Start.{is_connected, first_state, start_pair, no_pair}
 use Rattle.actor_map.specs.Sizes.{words_of}
 use Rattle.cq_pair.specs.DeviceView as queue
 use Rattle.counted_ring.specs.declared.place.WqPlace.{WqPlace}

@@ -17,11 +17,11 @@ use Rattle.counted_ring.specs.Queue.{WqEvent, Took}
 use Rattle.counted_ring.proofs.Shape.{span_some}
 use Rattle.work_entries.specs.declared.units.SendWords.{SendWords}
 use Rattle.device_engine.specs.declared.pair.Pair.{Pair}
-use Rattle.device_engine.specs.declared.told.Comes.TheVariants.{Publish, Next}
-use Rattle.device_engine.specs.declared.told.Told.{Told}
+use Rattle.device_engine.specs.declared.outcome.NextWork.TheVariants.{Publish, Next}
+use Rattle.device_engine.specs.declared.outcome.Outcome.{Outcome}
 use Rattle.device_engine.specs.Entry.{wants, nop_cqe}
 use Rattle.device_engine.specs.Pair.{CanRead, Reads, LeavesTask, pair_read, with_request, with_side}
-use Rattle.device_engine.specs.Told.{entry_of, comes_asked, fetch_note, told_read}
+use Rattle.device_engine.specs.NextWork.{entry_of, comes_asked, fetch_note, told_read}
 
 answered : (answer : Step (Unit {0}) WqSeen) (entry : SendWords) → Some entry ≡ entry_of answer → answer ≡ Done (answers.Read entry)
 answered More entry h = absurd (cc)
@@ -75,7 +75,7 @@ module _ (place : WqPlace) (d : WqReader) (entry : SendWords) (words : List ℕ)
       cond-true (is_whole place d.ready words) _ _ w.whole
       ∙ ap (λ (first : ℕ). record { next = d.next + reach place d.ready first; ready = d.ready - reach place d.ready first; register = d.register; words = [] }) (front 0 (omega arith))
 
-module _ (old begun turned new : Pair) (made : DeviceView) (e : BusEntry) (answer : Step (Unit {0}) WqSeen) (entry : SendWords) (told : Told)
+module _ (old begun turned new : Pair) (made : DeviceView) (e : BusEntry) (answer : Step (Unit {0}) WqSeen) (entry : SendWords) (told : Outcome)
     (can : CanRead old) (begins : begun ≡ with_side old old.requests.side (Some Read))
     (turn : DeviceTurn begun.requests made e answer) (gives : Some entry ≡ entry_of answer)
     (turned_is : turned ≡ record begun { requests = made })
@@ -108,7 +108,7 @@ module _ (old begun turned new : Pair) (made : DeviceView) (e : BusEntry) (answe
   is : turned ≡ with_made old
   is = turned_is ∙ ap with_made begins
 
-  abbrev told_of : Pair → Told
+  abbrev told_of : Pair → Outcome
   told_of p = record { comes = comes_asked p entry.words; note = Some (fetch_note p.number (p.taken + 1)) }
 
   told_whole : told ≡ told_read old (Some (Took words))

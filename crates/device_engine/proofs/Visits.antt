@@ -2,20 +2,20 @@
 use Rattle.std.proofs.Common.{◌^◌, ◌≡◌, ℕ, ◌+◌, ◌<◌, ◌&&◌, refl, sym, ap, ◌∙◌, subst, arith, cond, Bool, true, false, nat_lt, MatchBool, length, eq-eqb, Option, Some, None, slice_get, get_or}
 use Rattle.std.proofs.lemmas.Option.{slice_get_read}
 use Rattle.bus_core.specs.Port.{Port}
-use Rattle.verbs_model.specs.declared.declaration.Lines.{Lines}
-use Rattle.verbs_model.specs.declared.declaration.TheConstants.{FIRST_QP}
+use Rattle.verbs_types.specs.declared.declaration.Lines.{Lines}
+use Rattle.verbs_types.specs.declared.declaration.TheConstants.{FIRST_QP}
 use Rattle.counted_ring.specs.Device.{WqReader}
 use Rattle.counted_ring.specs.DeviceView.{DeviceTask}
 use Rattle.counted_ring.specs.Turn.{CanServe}
 use Rattle.device_engine.specs.declared.pair.Pair.{Pair}
 use Rattle.device_engine.specs.declared.scan.Work.{Work}
-use Rattle.device_engine.specs.declared.told.Comes.{Comes}
+use Rattle.device_engine.specs.declared.outcome.NextWork.{NextWork}
 use Rattle.device_engine.specs.Goes.{goes}
 use Rattle.device_engine.specs.Pair.{AtRead, IsLow}
 use Rattle.device_engine.specs.Rows.{read_or_next}
 use Rattle.device_engine.specs.Scan.{IsPair, IsReading, IsScan, IsStanding, IsThere, PairTask, task_of, ReadsPair, CanGo, task_before}
 use Rattle.device_engine.specs.State.{AdapterRule, Reading, reader, may_send, working, next_visit, with_reader, with_taken, put_number, fresh_adapter}
-use Rattle.device_engine.specs.Told.{comes_ready}
+use Rattle.device_engine.specs.NextWork.{comes_ready}
 use Rattle.device_engine.specs.Turn.{CanScan}
 use Rattle.device_engine.specs.Counts.{CountsBelow}
 use Rattle.device_engine.specs.View.{ScanView, rule_of}
@@ -92,7 +92,7 @@ pub reading_was : (i : ℕ) (q : Pair) → PairTask (ReadsPair i) i q → IsRead
 reading_was i q is = subst (λ (same : Bool). MatchBool same (IsReading q) (q.requests.task ≡ None)) (eq-eqb i i refl) is
 
 -- what comes after the register and the record is what the rule goes on to
-pub goes_cond : (d : Lines) (b : Bool) (x y : Comes) (s : AdapterRule) → goes d (cond b x y) s ≡ cond b (goes d x s) (goes d y s)
+pub goes_cond : (d : Lines) (b : Bool) (x y : NextWork) (s : AdapterRule) → goes d (cond b x y) s ≡ cond b (goes d x s) (goes d y s)
 goes_cond d true x y s = refl
 goes_cond d false x y s = refl
 
@@ -104,7 +104,7 @@ pub ready_row : (d : Lines) (may : Bool) (r : WqReader) (s : AdapterRule) → ma
 ready_row d may r s is = goes_ready d (may && nat_lt 0 r.ready) s ∙ ap (λ (m : Bool). cond (m && nat_lt 0 r.ready) (working Reading s) (next_visit d s)) is
 
 -- it can go on so
-pub record Stands (v : ScanView) (comes : Comes) : Type 0 where
+pub record Stands (v : ScanView) (comes : NextWork) : Type 0 where
   pub scan : IsScan v (task_before comes v)
   pub can : CanGo v comes
 

@@ -1,7 +1,7 @@
 -- A visit is whole.
 use Rattle.std.proofs.Common.{◌≡◌, ℕ, ◌+◌, ◌≤◌, ◌⊎◌, inl, inr, refl, sym, ap, ◌∙◌, subst, arith, cond, Bool, true, false, List, [], ◌∷◌, fold}
 use Rattle.bus_core.specs.declared.operation.BusEntry.{BusEntry}
-use Rattle.verbs_model.specs.declared.declaration.Lines.{Lines}
+use Rattle.verbs_types.specs.declared.declaration.Lines.{Lines}
 use Rattle.cqe_format.specs.declared.completion.Cqe.{Cqe}
 use Rattle.device_engine.specs.Rows.{is_ready}
 use Rattle.device_engine.specs.Rule.{after_adapt}

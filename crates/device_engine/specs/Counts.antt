@@ -1,8 +1,8 @@
 -- How far the adapter's counts and indices have come.
 use Rattle.std.specs.Prelude.{ℕ, ◌≡◌, ◌+◌, ◌^◌, ◌<◌, IsTrue}
 use Rattle.bus_core.specs.declared.operation.BusEntry.{BusEntry}
-use Rattle.verbs_model.specs.declared.declaration.Lines.{Lines}
-use Rattle.verbs_model.specs.Lines.{is_declared}
+use Rattle.verbs_types.specs.declared.declaration.Lines.{Lines}
+use Rattle.verbs_types.specs.Lines.{is_declared}
 use Rattle.owner_ring.specs.Producer.{next_index}
 use Rattle.device_engine.specs.Rule.{after_adapt}
 use Rattle.device_engine.specs.State.{AdapterRule, fresh_adapter}

@@ -1,8 +1,8 @@
 -- What a marked operation of the adapter says, and the note of it.
 use Rattle.std.specs.Prelude.{ℕ, Option, Some, None, option_map}
 use Rattle.bus_core.specs.declared.turn.Note.{Note}
-use Rattle.verbs_model.specs.declared.completion.Queue.TheVariants.{Send}
-use Rattle.verbs_model.specs.declared.entry.What.TheVariants.{Fetch}
+use Rattle.verbs_types.specs.declared.completion.Queue.TheVariants.{Send}
+use Rattle.verbs_types.specs.declared.entry.What.TheVariants.{Fetch}
 use Rattle.actor_map.specs.Notes.{note_of}
 use Rattle.actor_map.specs.declared.note.TheConstants.{PUBLISH}
 use Rattle.cqe_format.specs.declared.completion.Cqe.{Cqe}

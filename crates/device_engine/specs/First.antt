@@ -1,7 +1,7 @@
 -- The adapter before its first operation.
 use Rattle.std.specs.Prelude.{ℕ, ◌≡◌, ◌+◌, List, length, slice_get, Some, None}
-use Rattle.verbs_model.specs.declared.declaration.Lines.{Lines}
-use Rattle.verbs_model.specs.declared.declaration.TheConstants.{FIRST_QP}
+use Rattle.verbs_types.specs.declared.declaration.Lines.{Lines}
+use Rattle.verbs_types.specs.declared.declaration.TheConstants.{FIRST_QP}
 use Rattle.cq_pair.specs.DeviceView as queue
 use Rattle.device_engine.specs.declared.pair.Pair.{Pair}
 use Rattle.device_engine.specs.Scan.{IsPair, IsQueue}

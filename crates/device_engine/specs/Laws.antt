@@ -1,7 +1,7 @@
 -- What holds of every entry that the adapter reads.
 use Rattle.std.specs.Prelude.{ℕ, ◌≡◌}
-use Rattle.verbs_model.specs.declared.request.Op.TheVariants.{Nop}
-use Rattle.verbs_model.specs.declared.request.Request.{Request}
+use Rattle.verbs_types.specs.declared.request.Op.TheVariants.{Nop}
+use Rattle.verbs_types.specs.declared.request.Request.{Request}
 use Rattle.work_entries.specs.declared.units.SendWords.{SendWords}
 use Rattle.work_entries.specs.Send.{IsSend, sent_of}
 use Rattle.counted_ring.specs.declared.place.WqPlace.{WqPlace}

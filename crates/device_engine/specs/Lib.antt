@@ -4,7 +4,7 @@ pub mod Event
 pub mod Rows
 pub mod Rule
 pub mod Seen
-pub mod Told
+pub mod NextWork
 pub mod Pair
 pub mod Laws
 pub mod View

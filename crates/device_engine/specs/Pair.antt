@@ -6,9 +6,9 @@ use Rattle.counted_ring.specs.DeviceView.{DeviceTask, Look, Record, Read}
 use Rattle.counted_ring.specs.Place.{is_send, touches}
 use Rattle.counted_ring.specs.Queue.{WqEvent, Took}
 use Rattle.device_engine.specs.declared.pair.Pair.{Pair}
-use Rattle.device_engine.specs.declared.told.Comes.{Comes}
-use Rattle.device_engine.specs.declared.told.Told.{Told}
-use Rattle.device_engine.specs.Told.{comes_looked, comes_recorded, told_read}
+use Rattle.device_engine.specs.declared.outcome.NextWork.{NextWork}
+use Rattle.device_engine.specs.declared.outcome.Outcome.{Outcome}
+use Rattle.device_engine.specs.NextWork.{comes_looked, comes_recorded, told_read}
 
 -- the pair's own counts are those of its send queue
 pub record IsMatched (p : Pair) : Type 0 where
@@ -77,13 +77,13 @@ abbrev pub LeavesTask : Option WqEvent → Option DeviceTask → Type 0
 LeavesTask None task = AtRead task
 LeavesTask (Some event) task = task ≡ None
 
-pub record Looks (old new : Pair) (e : BusEntry) (comes : Comes) : Type 0 where
+pub record Looks (old new : Pair) (e : BusEntry) (comes : NextWork) : Type 0 where
   pub may : MayLook old.requests.place old.requests.side e
   pub inside : touches old.requests.place e.addr ≡ true
   pub comes_is : comes ≡ comes_looked old.may_send old.requests.side e
   pub pair : new ≡ with_side old (after_look old.requests.side e) None
 
-pub record Records (old new : Pair) (e : BusEntry) (comes : Comes) : Type 0 where
+pub record Records (old new : Pair) (e : BusEntry) (comes : NextWork) : Type 0 where
   pub may : MayRecord old.requests.place old.requests.side false e
   pub inside : touches old.requests.place e.addr ≡ true
   pub comes_is : comes ≡ comes_recorded old.may_send old.requests.side e
@@ -92,7 +92,7 @@ pub record Records (old new : Pair) (e : BusEntry) (comes : Comes) : Type 0 wher
 abbrev pub event_of : Pair → BusEntry → Option WqEvent
 event_of p e = read_says p.requests.place p.requests.side e
 
-pub record Reads (old new : Pair) (e : BusEntry) (told : Told) : Type 0 where
+pub record Reads (old new : Pair) (e : BusEntry) (told : Outcome) : Type 0 where
   pub may : MayRead old.requests.place old.requests.side e
   pub inside : touches old.requests.place e.addr ≡ true
   pub told_is : told ≡ told_read old (event_of old e)

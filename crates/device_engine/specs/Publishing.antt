@@ -7,7 +7,7 @@ use Rattle.cq_pair.specs.Place.{ring_of}
 use Rattle.cq_pair.specs.Device.{MayDeliver, after_deliver, delivered}
 use Rattle.cq_pair.specs.DeviceView.{DeviceView, next_mark, seen_after}
 use Rattle.cq_pair.specs.Queue.{QueueEvent}
-use Rattle.device_engine.specs.declared.told.Told.{Told}
+use Rattle.device_engine.specs.declared.outcome.Outcome.{Outcome}
 use Rattle.device_engine.specs.Goes.{told_published}
 
 -- a publication is over with its event
@@ -15,7 +15,7 @@ abbrev pub task_left : Option Cqe → Option QueueEvent → Option Cqe
 task_left task None = task
 task_left task (Some event) = None
 
-pub record Publishes (cq : ℕ) (old new : DeviceView) (e : BusEntry) (told : Told) : Type 0 where
+pub record Publishes (cq : ℕ) (old new : DeviceView) (e : BusEntry) (told : Outcome) : Type 0 where
   pub may : MayDeliver old.place old.side (next_mark old) e
   pub inside : touches (ring_of old.place) e.addr ≡ true
   pub side : new.side ≡ after_deliver old.place old.side (next_mark old) e

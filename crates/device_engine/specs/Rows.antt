@@ -2,7 +2,7 @@
 use Rattle.std.specs.Prelude.{ℕ, ◌==◌, ◌&&◌, nat_lt, if◌then◌else◌, Bool, List, false, Option, Some, None}
 use Rattle.bus_core.specs.declared.operation.BusEntry.{BusEntry}
 use Rattle.bus_core.specs.Operation.{loaded}
-use Rattle.verbs_model.specs.declared.declaration.Lines.{Lines}
+use Rattle.verbs_types.specs.declared.declaration.Lines.{Lines}
 use Rattle.cqe_format.specs.declared.completion.Cqe.{Cqe}
 use Rattle.cq_pair.specs.Device.{after_deliver, delivered}
 use Rattle.cq_pair.specs.DeviceView.{mark_of}

@@ -2,7 +2,7 @@
 use Rattle.std.specs.Prelude.{◌+◌, false, Option, None}
 use Rattle.bus_core.specs.declared.operation.BusEntry.{BusEntry}
 use Rattle.bus_core.specs.Operation.{IsLoad}
-use Rattle.verbs_model.specs.declared.declaration.Lines.{Lines}
+use Rattle.verbs_types.specs.declared.declaration.Lines.{Lines}
 use Rattle.cq_pair.specs.Device.{MayDeliver}
 use Rattle.counted_ring.specs.Device.{MayLook, MayRecord, MayRead}
 use Rattle.counted_ring.specs.Mark as requests

@@ -1,8 +1,8 @@
 -- What stands between two operations of the scan, and what an operation does.
 use Rattle.std.specs.Prelude.{ℕ, ◌≡◌, ◌+◌, ◌^◌, ◌<◌, ◌≤◌, ◌==◌, IsTrue, MatchBool, if◌then◌else◌, length, slice_get, Option, Some, None}
-use Rattle.verbs_model.specs.declared.declaration.Lines.{Lines}
-use Rattle.verbs_model.specs.declared.declaration.TheConstants.{FIRST_QP}
-use Rattle.verbs_model.specs.Lines.{is_declared}
+use Rattle.verbs_types.specs.declared.declaration.Lines.{Lines}
+use Rattle.verbs_types.specs.declared.declaration.TheConstants.{FIRST_QP}
+use Rattle.verbs_types.specs.Lines.{is_declared}
 use Rattle.actor_map.specs.Sizes.{words_of}
 use Rattle.cqe_format.specs.declared.completion.Cqe.{Cqe}
 use Rattle.cqe_format.specs.Completion.{IsCompletion}
@@ -12,8 +12,8 @@ use Rattle.object_places.specs.Places.{IsWithin, AreWithin, completions_of, send
 use Rattle.device_engine.specs.declared.pair.Pair.{Pair}
 use Rattle.device_engine.specs.declared.scan.Work.{Work}
 use Rattle.device_engine.specs.declared.scan.Work.TheVariants as works
-use Rattle.device_engine.specs.declared.told.Comes.{Comes}
-use Rattle.device_engine.specs.declared.told.Comes.TheVariants.{Same, Record, Read, Publish, Next, First}
+use Rattle.device_engine.specs.declared.outcome.NextWork.{NextWork}
+use Rattle.device_engine.specs.declared.outcome.NextWork.TheVariants.{Same, Record, Read, Publish, Next, First}
 use Rattle.device_engine.specs.Pair.{IsMatched, AtRead}
 use Rattle.device_engine.specs.State.{may_send, send_cq}
 use Rattle.device_engine.specs.View.{ScanView}
@@ -86,7 +86,7 @@ pub record IsStanding (v : ScanView) : Type 0 where
   pub there : IsThere v v.work
 
 -- the task before the adapter goes on
-abbrev pub task_before : Comes → ScanView → Task
+abbrev pub task_before : NextWork → ScanView → Task
 task_before Same v = task_of v.work v.visit
 task_before Read v = ReadsPair v.visit
 task_before _ v = Idle
@@ -98,7 +98,7 @@ pub record CanPublish (v : ScanView) (cq : ℕ) (completion : Cqe) : Type 0 wher
   pub low : (q : queue.DeviceView) → slice_get v.queues cq ≡ Some q → next_index q.side.producer < 2 ^ 62
 
 -- the adapter can go on to this
-abbrev pub CanGo : ScanView → Comes → Type 0
+abbrev pub CanGo : ScanView → NextWork → Type 0
 CanGo v Same = IsThere v v.work
 CanGo v Record = v.visit < length v.pairs
 CanGo v Read = v.visit < length v.pairs

@@ -3,11 +3,11 @@ use Rattle.std.specs.Prelude.{ℕ, ◌≡◌, ◌≤◌, ◌==◌, Bool, true, O
 use Rattle.bus_core.specs.declared.operation.BusEntry.{BusEntry}
 use Rattle.bus_core.specs.declared.turn.Note.{Note}
 use Rattle.bus_core.specs.Port.{Port, HasRoom}
-use Rattle.verbs_model.specs.declared.declaration.Lines.{Lines}
+use Rattle.verbs_types.specs.declared.declaration.Lines.{Lines}
 use Rattle.actor_map.specs.Sizes.{words_of}
 use Rattle.object_places.specs.declared.ended.TheConstants.{ENDED_WORD}
 use Rattle.object_places.specs.Objects.{Mark, OnCompletions, OnSends, OnReceives, Ends, Completions, Sends, Receives, touches}
-use Rattle.device_engine.specs.declared.told.Told.{Told}
+use Rattle.device_engine.specs.declared.outcome.Outcome.{Outcome}
 use Rattle.device_engine.specs.Event.{notes}
 use Rattle.device_engine.specs.Goes.{goes}
 use Rattle.device_engine.specs.Rule.{adapter_mark, MayAdapt, after_adapt, adapter_says}
@@ -28,7 +28,7 @@ is_about d (OnReceives qp mark) address = touches d (Receives qp) address
 is_about d Ends address = address == ENDED_WORD
 
 -- one operation, before the adapter goes on
-pub record Operates (old new : ScanView) (e : BusEntry) (told : Told) : Type 0 where
+pub record Operates (old new : ScanView) (e : BusEntry) (told : Outcome) : Type 0 where
   pub may : MayAdapt old.declared (rule_of old) e
   pub inside : is_about old.declared (adapter_mark old.declared (rule_of old)) e.addr ≡ true
   pub rule : goes old.declared told.comes (rule_of new) ≡ after_adapt old.declared (rule_of old) e

@@ -1,8 +1,8 @@
 -- The adapter's machine, seen as its rule's state.
 use Rattle.std.specs.Prelude.{ℕ, ◌+◌, ◌^◌, ◌<◌, List}
-use Rattle.verbs_model.specs.declared.declaration.Lines.{Lines}
-use Rattle.verbs_model.specs.declared.declaration.TheConstants.{FIRST_QP}
-use Rattle.verbs_model.specs.Start.{for_line}
+use Rattle.verbs_types.specs.declared.declaration.Lines.{Lines}
+use Rattle.verbs_types.specs.declared.declaration.TheConstants.{FIRST_QP}
+use Rattle.verbs_rules.specs.Start.{for_line}
 use Rattle.cq_pair.specs.DeviceView as queue
 use Rattle.device_engine.specs.declared.pair.Pair.{Pair}
 use Rattle.device_engine.specs.declared.scan.Work.{Work}

@@ -1,7 +1,7 @@
 -- What holds of every visit of a queue pair.
 use Rattle.std.specs.Prelude.{ℕ, ◌≡◌, ◌+◌, ◌≤◌, ◌⊎◌, Bool, true, false, if◌then◌else◌, List, [], ◌∷◌, fold}
 use Rattle.bus_core.specs.declared.operation.BusEntry.{BusEntry}
-use Rattle.verbs_model.specs.declared.declaration.Lines.{Lines}
+use Rattle.verbs_types.specs.declared.declaration.Lines.{Lines}
 use Rattle.device_engine.specs.Rows.{is_ready}
 use Rattle.device_engine.specs.Rule.{after_adapt}
 use Rattle.device_engine.specs.State.{AdapterAt, AdapterRule, Looking, Recording}

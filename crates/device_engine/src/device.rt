@@ -10,7 +10,7 @@ use actor_map::{Actor, AddressMap};
 use bus_core::{BusPort, Note};
 use std::alloc::Global;
 use std::marker::Model;
-use verbs_model::{Declared, NoMemory};
+use verbs_types::{Declared, NoMemory};
 
 /// The adapter, which scans the declared objects, one bus operation a turn: it visits the queue pairs by
 /// rising number, and then loads the word of actors that ended. `specs/Rule.antt` says what each operation is.

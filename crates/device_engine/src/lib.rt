@@ -7,10 +7,10 @@
 mod device;
 mod entry;
 pub mod laws;
+mod outcome;
 mod pair;
 mod publish;
 mod scan;
 mod start;
-mod told;
 
 pub use device::Device;

@@ -7,10 +7,10 @@ ghost use Rattle.counted_ring.specs.DeviceView as tasks;
 ghost use Rattle.counted_ring.specs.Place.{IsPlace};
 ghost use Rattle.counted_ring.specs.Turn.{CanServe};
 ghost use Rattle.device_engine.specs.Pair.{AtRead, CanLook, CanRead, Looks, Records, Reads, with_side};
-ghost use Rattle.device_engine.specs.Told as told;
+ghost use Rattle.device_engine.specs.NextWork as told;
 
 use crate::entry::{nop_cqe, wants_completion};
-use crate::told::{Comes, Told};
+use crate::outcome::{NextWork, Outcome};
 use actor_map::FETCH;
 use bus_core::{BusPort, Note, Step};
 use counted_ring::{WqDevice, WqPlace, WqSeen};
@@ -35,7 +35,7 @@ pub(crate) struct Pair {
 
 impl Pair {
     /// Loads the register.
-    pub fn look<P: BusPort>(&mut self, port: &mut P) -> Comes
+    pub fn look<P: BusPort>(&mut self, port: &mut P) -> NextWork
         requires look { CanLook self.old }
         requires port { CanServe self.old.requests.place (P.port port.old) }
         ensures { (e : BusEntry) × Appends (P.port port.old) (P.port port.new) e × Looks self.old self.new e result }
@@ -43,12 +43,12 @@ impl Pair {
         self.requests.begin_look();
         match self.requests.turn(port) {
             Step::Done(WqSeen::Same) => self.goes_on(),
-            _ => Comes::Record,
+            _ => NextWork::Record,
         }
     }
 
     /// Loads the record.
-    pub fn record<P: BusPort>(&mut self, port: &mut P) -> Comes
+    pub fn record<P: BusPort>(&mut self, port: &mut P) -> NextWork
         requires look { CanLook self.old }
         requires port { CanServe self.old.requests.place (P.port port.old) }
         ensures { (e : BusEntry) × Appends (P.port port.old) (P.port port.new) e × Records self.old self.new e result }
@@ -59,7 +59,7 @@ impl Pair {
     }
 
     /// Reads one word more of the next entry. With the last one the request is taken.
-    pub fn read<P: BusPort>(&mut self, port: &mut P) -> Told
+    pub fn read<P: BusPort>(&mut self, port: &mut P) -> Outcome
         requires read { CanRead self.old }
         requires port { CanServe self.old.requests.place (P.port port.old) }
         ensures { (e : BusEntry) × Appends (P.port port.old) (P.port port.new) e × Reads self.old self.new e result }
@@ -67,8 +67,8 @@ impl Pair {
         self.begin_read();
         match entry_of(self.requests.turn(port)) {
             Some(entry) => self.take(&entry.words),
-            None => Told {
-                comes: Comes::Same,
+            None => Outcome {
+                comes: NextWork::Same,
                 note: None,
             },
         }
@@ -87,14 +87,14 @@ impl Pair {
     }
 
     /// What comes after the record: the next entry, if one is ready and the pair may send.
-    fn goes_on(&self) -> Comes
+    fn goes_on(&self) -> NextWork
         requires { self.now.next ≡ self.now.requests.side.next }
         ensures { result ≡ told.comes_ready (self.now.may_send && nat_lt 0 self.now.requests.side.ready) }
     {
         if self.may_send && self.ready() > 0 {
-            Comes::Read
+            NextWork::Read
         } else {
-            Comes::Next
+            NextWork::Next
         }
     }
 
@@ -107,7 +107,7 @@ impl Pair {
     }
 
     /// Takes the request of these words.
-    fn take(&mut self, words: &[u64; 32]) -> Told
+    fn take(&mut self, words: &[u64; 32]) -> Outcome
         requires number { self.old.number < 2 ^ 24 }
         requires next { self.old.next < 2 ^ 61 }
         requires taken { self.old.taken < 2 ^ 61 }
@@ -120,24 +120,24 @@ impl Pair {
         let comes = self.asked(words);
         self.next += self.blocks(words[0]);
         self.taken += 1;
-        Told {
+        Outcome {
             comes,
             note: Some(fetch_note(self.number, self.taken)),
         }
     }
 
     /// What the request asks for.
-    fn asked(&self, words: &[u64; 32]) -> Comes
+    fn asked(&self, words: &[u64; 32]) -> NextWork
         requires { self.now.number < 2 ^ 24 }
         ensures { result ≡ told.comes_asked self.now words.now }
     {
         if wants_completion(words) {
-            Comes::Publish {
+            NextWork::Publish {
                 cq: self.send_cq,
                 completion: nop_cqe(self.number, self.next),
             }
         } else {
-            Comes::Next
+            NextWork::Next
         }
     }
 

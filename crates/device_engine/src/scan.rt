@@ -2,7 +2,7 @@
 ghost use Rattle.std.specs.Prelude.{◌≡◌, ◌+◌, ◌^◌, ◌<◌, ◌≤◌, length, slice_set};
 ghost use Rattle.bus_core.specs.Port.{Appends};
 ghost use Rattle.bus_core.specs.declared.operation.BusEntry.{BusEntry};
-ghost use Rattle.verbs_model.specs.declared.declaration.TheConstants.{FIRST_QP};
+ghost use Rattle.verbs_types.specs.declared.declaration.TheConstants.{FIRST_QP};
 ghost use Rattle.device_engine.specs.Goes.{goes};
 ghost use Rattle.device_engine.specs.Scan.{IsScan, IsStanding, IsPublishing, CanGo, CanPublish, Idle, task_before};
 ghost use Rattle.device_engine.specs.State.{Publishing, visiting, working};
@@ -10,15 +10,15 @@ ghost use Rattle.device_engine.specs.Turn.{CanScan, Operates};
 ghost use Rattle.device_engine.specs.Counts.{CountsBelow};
 ghost use Rattle.device_engine.specs.View.{scan_of, rule_of, seen_of};
 
+use crate::outcome::{NextWork, Outcome};
 use crate::pair::Pair;
 use crate::publish::publish;
-use crate::told::{Comes, Told};
 use bus_core::BusPort;
 use cq_pair::CqDevice;
 use cqe_format::Cqe;
 use object_places::ENDED_WORD;
 use std::snapshot::Snapshot;
-use verbs_model::Declared;
+use verbs_types::Declared;
 
 /// What the adapter is at.
 #[derive(Drop)]
@@ -50,7 +50,7 @@ pub(crate) struct Scan {
 
 impl Scan {
     /// Makes one operation.
-    pub fn operate<P: BusPort>(&mut self, port: &mut P) -> Told
+    pub fn operate<P: BusPort>(&mut self, port: &mut P) -> Outcome
         requires standing { IsStanding (scan_of self.old) }
         requires low { CountsBelow (2 ^ 61) (rule_of (scan_of self.old)) }
         requires port { CanScan (scan_of self.old).declared (P.port port.old) }
@@ -65,7 +65,7 @@ impl Scan {
         }
     }
 
-    fn look<P: BusPort>(&mut self, port: &mut P) -> Told
+    fn look<P: BusPort>(&mut self, port: &mut P) -> Outcome
         requires standing { IsStanding (scan_of self.old) }
         requires work { self.old.work ≡ Work.Looking }
         requires low { CountsBelow (2 ^ 61) (rule_of (scan_of self.old)) }
@@ -73,13 +73,13 @@ impl Scan {
         ensures { (e : BusEntry) × Appends (P.port port.old) (P.port port.new) e × Operates (scan_of self.old) (scan_of self.new) e result }
     {
         let pair = &mut self.pairs[self.visit];
-        Told {
+        Outcome {
             comes: pair.look(port),
             note: None,
         }
     }
 
-    fn record<P: BusPort>(&mut self, port: &mut P) -> Told
+    fn record<P: BusPort>(&mut self, port: &mut P) -> Outcome
         requires standing { IsStanding (scan_of self.old) }
         requires work { self.old.work ≡ Work.Recording }
         requires low { CountsBelow (2 ^ 61) (rule_of (scan_of self.old)) }
@@ -87,13 +87,13 @@ impl Scan {
         ensures { (e : BusEntry) × Appends (P.port port.old) (P.port port.new) e × Operates (scan_of self.old) (scan_of self.new) e result }
     {
         let pair = &mut self.pairs[self.visit];
-        Told {
+        Outcome {
             comes: pair.record(port),
             note: None,
         }
     }
 
-    fn read<P: BusPort>(&mut self, port: &mut P) -> Told
+    fn read<P: BusPort>(&mut self, port: &mut P) -> Outcome
         requires standing { IsStanding (scan_of self.old) }
         requires work { self.old.work ≡ Work.Reading }
         requires low { CountsBelow (2 ^ 61) (rule_of (scan_of self.old)) }
@@ -104,7 +104,7 @@ impl Scan {
         pair.read(port)
     }
 
-    fn publish<P: BusPort>(&mut self, cq: u32, port: &mut P) -> Told
+    fn publish<P: BusPort>(&mut self, cq: u32, port: &mut P) -> Outcome
         requires standing { IsStanding (scan_of self.old) }
         requires work { IsPublishing self.old.work cq }
         requires low { CountsBelow (2 ^ 61) (rule_of (scan_of self.old)) }
@@ -115,7 +115,7 @@ impl Scan {
         publish(queue, cq, port)
     }
 
-    fn end<P: BusPort>(&mut self, port: &mut P) -> Told
+    fn end<P: BusPort>(&mut self, port: &mut P) -> Outcome
         requires standing { IsStanding (scan_of self.old) }
         requires work { self.old.work ≡ Work.Ending }
         requires low { CountsBelow (2 ^ 61) (rule_of (scan_of self.old)) }
@@ -123,14 +123,14 @@ impl Scan {
         ensures { (e : BusEntry) × Appends (P.port port.old) (P.port port.new) e × Operates (scan_of self.old) (scan_of self.new) e result }
     {
         port.load(ENDED_WORD);
-        Told {
-            comes: Comes::First,
+        Outcome {
+            comes: NextWork::First,
             note: None,
         }
     }
 
     /// Goes on to what comes.
-    pub fn go(&mut self, comes: Comes)
+    pub fn go(&mut self, comes: NextWork)
         requires scan { IsScan (scan_of self.old) (task_before comes (scan_of self.old)) }
         requires can { CanGo (scan_of self.old) comes }
         ensures standing { IsStanding (scan_of self.new) }
@@ -139,12 +139,12 @@ impl Scan {
         ensures declared { (scan_of self.new).declared ≡ (scan_of self.old).declared }
     {
         match comes {
-            Comes::Same => {}
-            Comes::Record => self.work = Work::Recording,
-            Comes::Read => self.work = Work::Reading,
-            Comes::Publish { cq, completion } => self.begin_publish(cq, completion),
-            Comes::Next => self.visit_pair(self.visit + 1),
-            Comes::First => self.visit_pair(0),
+            NextWork::Same => {}
+            NextWork::Record => self.work = Work::Recording,
+            NextWork::Read => self.work = Work::Reading,
+            NextWork::Publish { cq, completion } => self.begin_publish(cq, completion),
+            NextWork::Next => self.visit_pair(self.visit + 1),
+            NextWork::First => self.visit_pair(0),
         }
     }
 

@@ -1,8 +1,8 @@
 //! The adapter before its first operation.
 ghost use Rattle.std.specs.Prelude.{◌≡◌, ◌<◌, ◌≤◌, ◌^◌, IsTrue, IfOk, length};
-ghost use Rattle.verbs_model.specs.Lines.{is_among};
-ghost use Rattle.verbs_model.specs.Start.{is_connected as is_connected_in};
-ghost use Rattle.verbs_model.specs.declared.declaration.TheConstants.{FIRST_QP};
+ghost use Rattle.verbs_types.specs.Lines.{is_among};
+ghost use Rattle.verbs_rules.specs.Start.{is_connected as is_connected_in};
+ghost use Rattle.verbs_types.specs.declared.declaration.TheConstants.{FIRST_QP};
 ghost use Rattle.actor_map.specs.Map.{map_of};
 ghost use Rattle.actor_map.specs.Sizes.{words_of};
 ghost use Rattle.object_places.specs.Places.{qp_line};
@@ -18,7 +18,7 @@ use cq_pair::CqDevice;
 use object_places::{completion_place, send_place};
 use std::alloc::{AllocError, Global};
 use std::snapshot::Snapshot;
-use verbs_model::{Declared, FIRST_QP, Lines, QpLine};
+use verbs_types::{Declared, FIRST_QP, Lines, QpLine};
 
 /// A scan that begins with the first pair, and has seen nothing.
 pub(crate) fn first_scan(alloc: Global, d: &Declared, map: &AddressMap) -> Result<Scan, AllocError>

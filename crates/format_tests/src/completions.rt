@@ -2,7 +2,7 @@
 
 use cqe_format::{Cqe, Syndrome, decode_cqe, decode_eqe, encode_cqe, encode_eqe, opcode};
 use std::test::Fail;
-use verbs_model::EventRecord;
+use verbs_types::EventRecord;
 
 // A good send completion of queue pair 0x41, counter 3.
 fn send() -> Cqe {

@@ -3,7 +3,7 @@ ghost use Rattle.std.specs.Prelude.{◌≡◌, ◌≤◌, IfOk, [], ◌∷◌, c
 
 use std::alloc::{AllocError, Global};
 use std::test::Fail;
-use verbs_model::{Body, Op, Request, Sequence, Sge};
+use verbs_types::{Body, Op, Request, Sequence, Sge};
 use work_entries::{
     BadEntry, EntryRule, InlineBytes, Sent, SentBody, SgeArray, decode_recv, decode_send,
     encode_recv, encode_send,

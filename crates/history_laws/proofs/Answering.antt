@@ -1,7 +1,7 @@
 -- Completions that answer requests, as both lists grow.
 use Rattle.std.proofs.Common.{inl, inr, List, [], ◌∷◌, ◌++◌}
-use Rattle.verbs_model.specs.declared.completion.Completion.{Completion}
-use Rattle.verbs_model.specs.declared.request.Item.{Item}
+use Rattle.verbs_types.specs.declared.completion.Completion.{Completion}
+use Rattle.verbs_types.specs.declared.request.Item.{Item}
 use Rattle.history_laws.specs.Answer.{AnswerInOrder, AnswerAll}
 
 -- more completions answer more requests

@@ -2,18 +2,18 @@
 use Rattle.std.proofs.Common.{◌≡◌, ℕ, true, false, refl, sym, ap, ◌∙◌, List, [], ◌∷◌, ◌++◌, append-nil, append_assoc, fold}
 use Rattle.std.specs.Option.{option_map_or}
 use Rattle.std.specs.Prelude.{Option, None, Some, if◌then◌else◌, Bool, slice_get, ◌-◌, length, map}
-use Rattle.verbs_model.specs.declared.completion.Completion.{Completion}
-use Rattle.verbs_model.specs.declared.declaration.Lines.{Lines}
-use Rattle.verbs_model.specs.declared.entry.Entry.{Entry}
-use Rattle.verbs_model.specs.declared.entry.What.{What}
-use Rattle.verbs_model.specs.declared.entry.What.TheVariants.{Post, PostFull, Poll, Retire, Free, Ack, Arm, TakeEvent, Submit, Reply, ReadByte, WriteByte, Clean, Fetch, TakeReceive, GetByte, PutByte, Publish, SeeArm, Event, Overrun, Lost, Execute}
-use Rattle.verbs_model.specs.declared.completion.Queue.TheVariants.{Send, Recv, Shared}
-use Rattle.verbs_model.specs.Legal.{IsLegal}
-use Rattle.verbs_model.specs.Lines.{is_among}
-use Rattle.verbs_model.specs.Start.{start, for_line, fresh_completions, no_completions}
-use Rattle.verbs_model.specs.State.{CompletionQueue, Verbs}
-use Rattle.verbs_model.specs.Step.{MayStep, after, after_entry}
-use Rattle.verbs_model.proofs.Facts.{MayPublish_by_step}
+use Rattle.verbs_types.specs.declared.completion.Completion.{Completion}
+use Rattle.verbs_types.specs.declared.declaration.Lines.{Lines}
+use Rattle.verbs_types.specs.declared.entry.Entry.{Entry}
+use Rattle.verbs_types.specs.declared.entry.What.{What}
+use Rattle.verbs_types.specs.declared.entry.What.TheVariants.{Post, PostFull, Poll, Retire, Free, Ack, Arm, TakeEvent, Submit, Reply, ReadByte, WriteByte, Clean, Fetch, TakeReceive, GetByte, PutByte, Publish, SeeArm, Event, Overrun, Lost, Execute}
+use Rattle.verbs_types.specs.declared.completion.Queue.TheVariants.{Send, Recv, Shared}
+use Rattle.verbs_rules.specs.Legal.{IsLegal}
+use Rattle.verbs_types.specs.Lines.{is_among}
+use Rattle.verbs_rules.specs.Start.{start, for_line, fresh_completions, no_completions}
+use Rattle.verbs_rules.specs.State.{CompletionQueue, Verbs}
+use Rattle.verbs_rules.specs.Step.{MayStep, after, after_entry}
+use Rattle.verbs_laws.proofs.Facts.{MayPublish_by_step}
 use Rattle.history_laws.specs.Laws.{completion_of, waiting_on, NoneIsLost}
 use Rattle.history_laws.specs.Said.{publishes_on, polls_from, published_on, polled_from}
 use Rattle.history_laws.proofs.Waiting.{poll_takes, publish_adds, ack_keeps}

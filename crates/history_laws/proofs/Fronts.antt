@@ -3,17 +3,17 @@ use Rattle.std.proofs.Common.{◌≡◌, ℕ, zero, suc, refl, sym, ap, ◌∙�
 use Rattle.std.specs.List.{AllByRecursion}
 use Rattle.std.proofs.lemmas.Bool.{cases_Bool, cond-true, cond-false}
 use Rattle.bus_core.specs.Follow.{Follows}
-use Rattle.verbs_model.specs.declared.completion.Completion.{Completion}
-use Rattle.verbs_model.specs.declared.completion.Queue.{Queue}
-use Rattle.verbs_model.specs.declared.entry.Entry.{Entry}
-use Rattle.verbs_model.specs.declared.entry.What.{What}
-use Rattle.verbs_model.specs.declared.entry.What.TheVariants.{Poll}
-use Rattle.verbs_model.specs.declared.request.Item.{Item}
-use Rattle.verbs_model.specs.Legal.{IsLegal}
-use Rattle.verbs_model.specs.Same.{same_queue}
-use Rattle.verbs_model.specs.Start.{start}
-use Rattle.verbs_model.specs.Step.{MayStep, after_entry}
-use Rattle.verbs_model.proofs.Sameness.{same_queue_refl}
+use Rattle.verbs_types.specs.declared.completion.Completion.{Completion}
+use Rattle.verbs_types.specs.declared.completion.Queue.{Queue}
+use Rattle.verbs_types.specs.declared.entry.Entry.{Entry}
+use Rattle.verbs_types.specs.declared.entry.What.{What}
+use Rattle.verbs_types.specs.declared.entry.What.TheVariants.{Poll}
+use Rattle.verbs_types.specs.declared.request.Item.{Item}
+use Rattle.verbs_rules.specs.Legal.{IsLegal}
+use Rattle.verbs_rules.specs.Same.{same_queue}
+use Rattle.verbs_rules.specs.Start.{start}
+use Rattle.verbs_rules.specs.Step.{MayStep, after_entry}
+use Rattle.verbs_laws.proofs.Sameness.{same_queue_refl}
 use Rattle.history_laws.specs.Answer.{AnswerInOrder, AnswersOne}
 use Rattle.history_laws.specs.Laws.{EachWasPosted}
 use Rattle.history_laws.specs.Said.{over, of_queue, polls, posts_on, posted_on, polled_of}

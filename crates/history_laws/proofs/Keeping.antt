@@ -4,28 +4,28 @@ use Rattle.std.specs.List.{AllByRecursion}
 use Rattle.std.specs.Prelude.{Some, slice_get}
 use Rattle.std.proofs.lemmas.Bool.{and_parts, cases_Bool}
 use Rattle.std.proofs.lemmas.List.Elements.{filter-append}
-use Rattle.verbs_model.specs.declared.completion.Completion.{Completion}
-use Rattle.verbs_model.specs.declared.completion.Queue.{Queue}
-use Rattle.verbs_model.specs.declared.completion.Queue.TheVariants.{Send, Recv, Shared}
-use Rattle.verbs_model.specs.declared.declaration.Lines.{Lines}
-use Rattle.verbs_model.specs.declared.declaration.QpLine.{QpLine}
-use Rattle.verbs_model.specs.declared.declaration.TheConstants.{FIRST_QP}
-use Rattle.verbs_model.specs.declared.entry.Entry.{Entry}
-use Rattle.verbs_model.specs.declared.entry.What.{What}
-use Rattle.verbs_model.specs.declared.entry.What.TheVariants.{Post, PostFull, Poll, Retire, Free, Ack, Arm, TakeEvent, Submit, Reply, ReadByte, WriteByte, Clean, Fetch, TakeReceive, GetByte, PutByte, Publish, SeeArm, Event, Overrun, Lost, Execute}
-use Rattle.verbs_model.specs.declared.request.Item.{Item}
-use Rattle.verbs_model.specs.declared.request.Item.TheVariants.{Request as TheRequest}
-use Rattle.verbs_model.specs.declared.state.Act.TheVariants.{Complete}
-use Rattle.verbs_model.specs.Family.{put}
-use Rattle.verbs_model.specs.Legal.{IsLegal}
-use Rattle.verbs_model.specs.Rows.{acts_of, fetch, poll, publish, retire, take}
-use Rattle.verbs_model.specs.Same.{same_queue}
-use Rattle.verbs_model.specs.Start.{start, fresh_queue, no_queue}
-use Rattle.verbs_model.specs.State.{WorkQueue, Verbs}
-use Rattle.verbs_model.specs.Step.{MayStep, after, after_entry}
-use Rattle.verbs_model.proofs.Facts.{MayFetch, MayFetch_by_step, MayPublish, MayPublish_by_step}
-use Rattle.verbs_model.proofs.Families.{put_at, put_beside}
-use Rattle.verbs_model.proofs.Sameness.{same_queue-true, same_queue_refl}
+use Rattle.verbs_types.specs.declared.completion.Completion.{Completion}
+use Rattle.verbs_types.specs.declared.completion.Queue.{Queue}
+use Rattle.verbs_types.specs.declared.completion.Queue.TheVariants.{Send, Recv, Shared}
+use Rattle.verbs_types.specs.declared.declaration.Lines.{Lines}
+use Rattle.verbs_types.specs.declared.declaration.QpLine.{QpLine}
+use Rattle.verbs_types.specs.declared.declaration.TheConstants.{FIRST_QP}
+use Rattle.verbs_types.specs.declared.entry.Entry.{Entry}
+use Rattle.verbs_types.specs.declared.entry.What.{What}
+use Rattle.verbs_types.specs.declared.entry.What.TheVariants.{Post, PostFull, Poll, Retire, Free, Ack, Arm, TakeEvent, Submit, Reply, ReadByte, WriteByte, Clean, Fetch, TakeReceive, GetByte, PutByte, Publish, SeeArm, Event, Overrun, Lost, Execute}
+use Rattle.verbs_types.specs.declared.request.Item.{Item}
+use Rattle.verbs_types.specs.declared.request.Item.TheVariants.{Request as TheRequest}
+use Rattle.verbs_types.specs.declared.state.Act.TheVariants.{Complete}
+use Rattle.verbs_rules.specs.Family.{put}
+use Rattle.verbs_rules.specs.Legal.{IsLegal}
+use Rattle.verbs_rules.specs.Rows.{acts_of, fetch, poll, publish, retire, take}
+use Rattle.verbs_rules.specs.Same.{same_queue}
+use Rattle.verbs_rules.specs.Start.{start, fresh_queue, no_queue}
+use Rattle.verbs_rules.specs.State.{WorkQueue, Verbs}
+use Rattle.verbs_rules.specs.Step.{MayStep, after, after_entry}
+use Rattle.verbs_laws.proofs.Facts.{MayFetch, MayFetch_by_step, MayPublish, MayPublish_by_step}
+use Rattle.verbs_laws.proofs.Families.{put_at, put_beside}
+use Rattle.verbs_laws.proofs.Sameness.{same_queue-true, same_queue_refl}
 use Rattle.history_laws.specs.Laws.{AllComeBack, IdsComeBack, NoneIsForgotten, owed_completion, owed_of, waiting_on}
 use Rattle.history_laws.specs.Said.{of_queue, polls, posts_on, publishes, posted_on, published_of, polled_of}
 use Rattle.history_laws.proofs.Accounts.{Account, quiet, posts_more, writes, polls_some, takes_next, in_order, all_answered, at_rest}

@@ -2,21 +2,21 @@
 use Rattle.std.proofs.Common.{◌≡◌, ◌≢◌, ℕ, ◌==◌, ◌+◌, true, if◌then◌else◌, refl, sym, ap, ◌∙◌, List, [], ◌∷◌, ◌++◌, length, map, drop, append-nil, eq-eqb}
 use Rattle.std.proofs.lemmas.Bool.{and_parts, cond-true, cond-false, false≢true}
 use Rattle.std.proofs.lemmas.List.{map-append}
-use Rattle.verbs_model.specs.declared.completion.Completion.{Completion}
-use Rattle.verbs_model.specs.declared.entry.Entry.{Entry}
-use Rattle.verbs_model.specs.declared.entry.What.TheVariants.{Poll}
-use Rattle.verbs_model.specs.declared.state.Act.{Act}
-use Rattle.verbs_model.specs.declared.state.Act.TheVariants.{Complete}
-use Rattle.verbs_model.specs.declared.state.Unpolled.{Unpolled}
-use Rattle.verbs_model.specs.Rows.{poll, publish, with_completions}
-use Rattle.verbs_model.specs.Rules.{objects_live}
-use Rattle.verbs_model.specs.Same.{is_front}
-use Rattle.verbs_model.specs.State.{CompletionQueue, Verbs}
-use Rattle.verbs_model.specs.Step.{MayStep}
-use Rattle.verbs_model.proofs.Choices.{put_completions, differs}
-use Rattle.verbs_model.proofs.Failing.{passed}
-use Rattle.verbs_model.proofs.Facts.{MayPoll_by_step, MayPublish}
-use Rattle.verbs_model.proofs.Sameness.{same_completion-true, front_is_front}
+use Rattle.verbs_types.specs.declared.completion.Completion.{Completion}
+use Rattle.verbs_types.specs.declared.entry.Entry.{Entry}
+use Rattle.verbs_types.specs.declared.entry.What.TheVariants.{Poll}
+use Rattle.verbs_types.specs.declared.state.Act.{Act}
+use Rattle.verbs_types.specs.declared.state.Act.TheVariants.{Complete}
+use Rattle.verbs_types.specs.declared.state.Unpolled.{Unpolled}
+use Rattle.verbs_rules.specs.Rows.{poll, publish, with_completions}
+use Rattle.verbs_rules.specs.Rules.{objects_live}
+use Rattle.verbs_rules.specs.Same.{is_front}
+use Rattle.verbs_rules.specs.State.{CompletionQueue, Verbs}
+use Rattle.verbs_rules.specs.Step.{MayStep}
+use Rattle.verbs_laws.proofs.Choices.{put_completions, differs}
+use Rattle.verbs_laws.proofs.Failing.{passed}
+use Rattle.verbs_laws.proofs.Facts.{MayPoll_by_step, MayPublish}
+use Rattle.verbs_laws.proofs.Sameness.{same_completion-true, front_is_front}
 use Rattle.history_laws.specs.Laws.{completion_of, waiting_on}
 
 -- an entry that has a step names living objects

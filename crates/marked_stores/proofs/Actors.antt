@@ -3,15 +3,15 @@ use Rattle.std.proofs.Common.{◌≡◌, ◌≢◌, ℕ, zero, suc, ◌<◌, inl
 use Rattle.bus_core.specs.declared.operation.BusOp.TheVariants.{Load}
 use Rattle.bus_core.specs.Mark.{Marked}
 use Rattle.bus_core.specs.Trace.{Memory}
-use Rattle.verbs_model.specs.declared.call.Call.{Call}
-use Rattle.verbs_model.specs.declared.call.Call.TheVariants.{Post, Recv, Poll, Drain}
-use Rattle.verbs_model.specs.declared.completion.Queue.{Queue}
-use Rattle.verbs_model.specs.declared.completion.Queue.TheVariants as queues
-use Rattle.verbs_model.specs.declared.declaration.Lines.{Lines}
-use Rattle.verbs_model.specs.declared.request.Item.{Item}
-use Rattle.verbs_model.specs.declared.request.Item.TheVariants.{Request as TheRequest, Receive as TheReceive}
-use Rattle.verbs_model.specs.Sane.{Bounds}
-use Rattle.verbs_model.specs.Turned.{Running}
+use Rattle.verbs_types.specs.declared.call.Call.{Call}
+use Rattle.verbs_types.specs.declared.call.Call.TheVariants.{Post, Recv, Poll, Drain}
+use Rattle.verbs_types.specs.declared.completion.Queue.{Queue}
+use Rattle.verbs_types.specs.declared.completion.Queue.TheVariants as queues
+use Rattle.verbs_types.specs.declared.declaration.Lines.{Lines}
+use Rattle.verbs_types.specs.declared.request.Item.{Item}
+use Rattle.verbs_types.specs.declared.request.Item.TheVariants.{Request as TheRequest, Receive as TheReceive}
+use Rattle.verbs_rules.specs.Sane.{Bounds}
+use Rattle.verbs_rules.specs.Running.{Running}
 use Rattle.cqe_format.specs.declared.completion.Cqe.{Cqe}
 use Rattle.owner_ring.specs.declared.place.RingPlace.{RingPlace}
 use Rattle.owner_ring.specs.Place.{slot}
@@ -38,7 +38,7 @@ use Rattle.actor_rules.proofs.PostNow.{QueueTied, queue_tied, retirer_at, reader
 use Rattle.actor_rules.proofs.PostStands.{object_of}
 use Rattle.actor_rules.proofs.Queues.{QueueLives}
 use Rattle.marked_stores.specs.News.{IsNews}
-use Rattle.marked_stores.specs.Told.{IsTold}
+use Rattle.marked_stores.specs.Stores.{SaysEntry}
 use Rattle.marked_stores.proofs.Places.{IsNewsIn, news_in, ended_no_news}
 use Rattle.marked_stores.proofs.Polls.{poll_told}
 use Rattle.marked_stores.proofs.Posters as posters
@@ -132,5 +132,5 @@ module _ (d : Lines) (programs : List (List Call)) (bounds : Bounds) (map_ok : I
   what_told (suc t) may = call_told t (w.threads (suc t)).calls refl may
 
 -- an operation that keeps its actor's rule
-pub told : (d : Lines) (programs : List (List Call)) (bounds : Bounds) → IsMapped d → (m : Memory) (w : Actors) (r : Running) (x : Marked Mark) → Holds d programs bounds m w r → MayAny d w x → IsTold d w x
+pub told : (d : Lines) (programs : List (List Call)) (bounds : Bounds) → IsMapped d → (m : Memory) (w : Actors) (r : Running) (x : Marked Mark) → Holds d programs bounds m w r → MayAny d w x → SaysEntry d w x
 told d programs bounds map_ok m w r x holds may writes news = some_made (by x.entry.actor) (what_of d w x.entry.actor x) (what_told d programs bounds map_ok m w r x holds writes news x.entry.actor may)

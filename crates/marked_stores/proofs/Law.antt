@@ -4,12 +4,12 @@ use Rattle.std.specs.List.{fold}
 use Rattle.bus_core.specs.Follow.{Follows}
 use Rattle.bus_core.specs.Mark.{Marked, entries}
 use Rattle.bus_core.specs.Trace.{Memory, IsConsistent, after_entry}
-use Rattle.verbs_model.specs.declared.call.Call.{Call}
-use Rattle.verbs_model.specs.declared.declaration.Lines.{Lines}
-use Rattle.verbs_model.specs.declared.entry.Entry.{Entry}
-use Rattle.verbs_model.specs.Sane.{Bounds}
-use Rattle.verbs_model.specs.Start.{start}
-use Rattle.verbs_model.specs.Turned.{Running, after_turn}
+use Rattle.verbs_types.specs.declared.call.Call.{Call}
+use Rattle.verbs_types.specs.declared.declaration.Lines.{Lines}
+use Rattle.verbs_types.specs.declared.entry.Entry.{Entry}
+use Rattle.verbs_rules.specs.Sane.{Bounds}
+use Rattle.verbs_rules.specs.Start.{start}
+use Rattle.verbs_rules.specs.Running.{Running, after_turn}
 use Rattle.actor_map.specs.Start.{start_words}
 use Rattle.object_places.specs.Apart.{ArePlaced, AreApart, AreAtStart}
 use Rattle.object_places.specs.Objects.{Mark}
@@ -21,7 +21,7 @@ use Rattle.actor_rules.proofs.Holding.{Holds, Goes, IsMapped}
 use Rattle.actor_rules.proofs.Law.{step}
 use Rattle.actor_rules.proofs.StartHolds.{CanAct, start_holds}
 use Rattle.actor_rules.proofs.Woven.{all_keep}
-use Rattle.marked_stores.specs.Told.{IsTold, AreTold}
+use Rattle.marked_stores.specs.Stores.{SaysEntry, SayEntries}
 use Rattle.marked_stores.proofs.Actors.{told}
 
 module _ (d : Lines) (programs : List (List Call)) (bounds : Bounds) (map_ok : IsMapped d) where
@@ -30,7 +30,7 @@ module _ (d : Lines) (programs : List (List Call)) (bounds : Bounds) (map_ok : I
   goes_on m w r None g = (r, g)
   goes_on m w r (Some e) g = (after_turn r e, g.1)
 
-  all_told : (trace : List (Marked Mark)) (m : Memory) (w : Actors) (r : Running) → Holds d programs bounds m w r → IsConsistent m (entries trace) → Follows (MayAny d) (after d) w trace → Follows (IsTold d) (after d) w trace
+  all_told : (trace : List (Marked Mark)) (m : Memory) (w : Actors) (r : Running) → Holds d programs bounds m w r → IsConsistent m (entries trace) → Follows (MayAny d) (after d) w trace → Follows (SaysEntry d) (after d) w trace
   all_told [] m w r holds consistent keeps = tt
   all_told (x ∷ trace) m w r holds consistent keeps =
       let next = goes_on (after_entry m x.entry) (after d w x) r (says d w x) (step d programs bounds map_ok m w r x holds consistent.0 keeps.0) in
@@ -42,10 +42,10 @@ follows_at allowed next s [] x later h = h.0
 follows_at allowed next s (e ∷ before) x later h = follows_at allowed next (next s e) before x later h.1
 
 -- what a run writes of news it says
-pub all_are_told : ArePlaced → AreApart → AreAtStart → (d : Lines) (programs : List (List Call)) (bounds : Bounds) (trace : List (Marked Mark)) → AreReady d programs bounds → IsRun d programs trace → AreTold d programs trace
+pub all_are_told : ArePlaced → AreApart → AreAtStart → (d : Lines) (programs : List (List Call)) (bounds : Bounds) (trace : List (Marked Mark)) → AreReady d programs bounds → IsRun d programs trace → SayEntries d programs trace
 all_are_told placed apart starts d programs bounds trace ready run before x later is =
     let map_ok : IsMapped d = record { declared = ready.declared; placed = placed; apart = apart } in
     let begins : CanAct d programs bounds = record { map = map_ok; starts = starts; ready = ready } in
     let first : Running = record { verbs = start d; owed = dues_at (first_dues programs) } in
     let all = all_told d programs bounds map_ok trace (start_words d 1) (fresh_actors d programs) first (start_holds d programs bounds begins) run.consistent (all_keep d trace (fresh_actors d programs) run.keeps) in
-    follows_at (IsTold d) (after d) (fresh_actors d programs) before x later (subst (Follows (IsTold d) (after d) (fresh_actors d programs)) is all)
+    follows_at (SaysEntry d) (after d) (fresh_actors d programs) before x later (subst (Follows (SaysEntry d) (after d) (fresh_actors d programs)) is all)

@@ -1,7 +1,7 @@
 -- Which words of which object are news.
 use Rattle.std.proofs.Common.{◌≡◌, ◌⊎◌, ℕ, inl, inr, sym, subst, ◌∙◌, arith, true}
 use Rattle.std.proofs.lemmas.Bool.{false≢true}
-use Rattle.verbs_model.specs.declared.declaration.Lines.{Lines}
+use Rattle.verbs_types.specs.declared.declaration.Lines.{Lines}
 use Rattle.owner_ring.specs.Place.{slot}
 use Rattle.owner_ring.proofs.Slots as ring
 use Rattle.cq_pair.specs.Place.{ring_of}

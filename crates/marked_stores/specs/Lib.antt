@@ -1,2 +1,2 @@
 pub mod News
-pub mod Told
+pub mod Stores

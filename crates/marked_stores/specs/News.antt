@@ -1,6 +1,6 @@
 -- The words in which actors take news of one another.
 use Rattle.std.specs.Prelude.{ℕ, ◌≡◌}
-use Rattle.verbs_model.specs.declared.declaration.Lines.{Lines}
+use Rattle.verbs_types.specs.declared.declaration.Lines.{Lines}
 use Rattle.owner_ring.specs.Place.{slot}
 use Rattle.cq_pair.specs.Place.{ring_of}
 use Rattle.object_places.specs.Objects.{Completions, Sends, Receives, Lives}

@@ -3,23 +3,23 @@ use Rattle.std.proofs.Common.{◌≡◌, ℕ, List, [], ◌∷◌, length, All, 
 use Rattle.std.specs.List.{list_all}
 use Rattle.std.proofs.lemmas.Bool.{and_parts, false≢true}
 use Rattle.std.proofs.lemmas.List.Elements.{All-cons}
-use Rattle.verbs_model.specs.declared.completion.Completion.{Completion}
-use Rattle.verbs_model.specs.declared.completion.Queue.{Queue}
-use Rattle.verbs_model.specs.declared.completion.Queue.TheVariants.{Send, Recv, Shared}
-use Rattle.verbs_model.specs.declared.declaration.Lines.{Lines}
-use Rattle.verbs_model.specs.declared.declaration.TheConstants.{FIRST_QP}
-use Rattle.verbs_model.specs.declared.entry.Entry.{Entry}
-use Rattle.verbs_model.specs.declared.entry.What.{What}
-use Rattle.verbs_model.specs.declared.entry.What.TheVariants.{Post, PostFull, Poll, Retire, Free, Ack, Arm, TakeEvent, Submit, Reply, ReadByte, WriteByte, Clean, Fetch, TakeReceive, GetByte, PutByte, Publish, SeeArm, Event, Overrun, Lost, Execute}
-use Rattle.verbs_model.specs.Legal.{IsLegal}
-use Rattle.verbs_model.specs.Lines.{is_among}
-use Rattle.verbs_model.specs.Rows.{publish}
-use Rattle.verbs_model.specs.declared.state.Act.{Act}
-use Rattle.verbs_model.specs.declared.state.Act.TheVariants.{Complete}
-use Rattle.verbs_model.specs.Rules.{names_living, objects_live, queue_lives}
-use Rattle.verbs_model.specs.State.{Verbs}
-use Rattle.verbs_model.specs.Step.{MayStep, after}
-use Rattle.verbs_model.proofs.Failing.{passed}
+use Rattle.verbs_types.specs.declared.completion.Completion.{Completion}
+use Rattle.verbs_types.specs.declared.completion.Queue.{Queue}
+use Rattle.verbs_types.specs.declared.completion.Queue.TheVariants.{Send, Recv, Shared}
+use Rattle.verbs_types.specs.declared.declaration.Lines.{Lines}
+use Rattle.verbs_types.specs.declared.declaration.TheConstants.{FIRST_QP}
+use Rattle.verbs_types.specs.declared.entry.Entry.{Entry}
+use Rattle.verbs_types.specs.declared.entry.What.{What}
+use Rattle.verbs_types.specs.declared.entry.What.TheVariants.{Post, PostFull, Poll, Retire, Free, Ack, Arm, TakeEvent, Submit, Reply, ReadByte, WriteByte, Clean, Fetch, TakeReceive, GetByte, PutByte, Publish, SeeArm, Event, Overrun, Lost, Execute}
+use Rattle.verbs_rules.specs.Legal.{IsLegal}
+use Rattle.verbs_types.specs.Lines.{is_among}
+use Rattle.verbs_rules.specs.Rows.{publish}
+use Rattle.verbs_types.specs.declared.state.Act.{Act}
+use Rattle.verbs_types.specs.declared.state.Act.TheVariants.{Complete}
+use Rattle.verbs_rules.specs.Rules.{names_living, objects_live, queue_lives}
+use Rattle.verbs_rules.specs.State.{Verbs}
+use Rattle.verbs_rules.specs.Step.{MayStep, after}
+use Rattle.verbs_laws.proofs.Failing.{passed}
 use Rattle.transcript_text.specs.Numbers.{IsCompletion, IsQueue, NamesDeclared}
 
 -- what lives is what is declared

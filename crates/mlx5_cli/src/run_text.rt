@@ -8,7 +8,7 @@ ghost use Rattle.mlx5_cli.specs.RunText.{IsRunOf, IsRunText};
 use scenario_text::{Scenario, ScenarioFault, parse_scenario};
 use std::alloc::Global;
 use transcript_text::print_run;
-use verbs_model::NoMemory;
+use verbs_types::NoMemory;
 use world_core::{Outcome, World};
 
 /// The text of a run of the scenario that `text` spells, its history and then its trace, or why it spells none that may

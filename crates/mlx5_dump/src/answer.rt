@@ -14,7 +14,7 @@ use cqe_format::opcode::is_error;
 use cqe_format::{Cqe, decode_cqe, decode_eqe};
 use prm_fields::{LayoutName, block_tail_rows, field_of};
 use std::alloc::AllocError;
-use verbs_model::EventRecord;
+use verbs_types::EventRecord;
 use work_entries::{BadEntry, EntryRule, SendWords, decode_send};
 
 /// The bytes as an array.

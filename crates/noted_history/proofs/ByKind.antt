@@ -2,15 +2,15 @@
 use Rattle.std.proofs.Common.{◌≡◌, ℕ, ◌≤◌, inl, inr, List, length, refl, sym, ap, subst, ◌∙◌, arith}
 use Rattle.std.proofs.lemmas.Option.{none-some}
 use Rattle.bus_core.specs.declared.turn.Note.{Note}
-use Rattle.verbs_model.specs.declared.completion.Completion.{Completion}
-use Rattle.verbs_model.specs.declared.completion.Queue.{Queue}
-use Rattle.verbs_model.specs.declared.entry.What.{What}
-use Rattle.verbs_model.specs.declared.entry.What.TheVariants.{Post, PostFull, Poll, Retire, Ack, Fetch, Publish}
-use Rattle.verbs_model.specs.declared.request.Item.{Item}
-use Rattle.verbs_model.specs.State.{Verbs}
-use Rattle.verbs_model.specs.Step.{MayStep}
-use Rattle.verbs_model.proofs.Failing.{IsHost, passed}
-use Rattle.verbs_model.proofs.Facts.{MayPost, MayPost_by_step, MayPostFull, MayPostFull_by_step, MayPoll, MayPoll_by_step, MayPublish, MayPublish_by_step}
+use Rattle.verbs_types.specs.declared.completion.Completion.{Completion}
+use Rattle.verbs_types.specs.declared.completion.Queue.{Queue}
+use Rattle.verbs_types.specs.declared.entry.What.{What}
+use Rattle.verbs_types.specs.declared.entry.What.TheVariants.{Post, PostFull, Poll, Retire, Ack, Fetch, Publish}
+use Rattle.verbs_types.specs.declared.request.Item.{Item}
+use Rattle.verbs_rules.specs.State.{Verbs}
+use Rattle.verbs_rules.specs.Step.{MayStep}
+use Rattle.verbs_laws.proofs.Failing.{IsHost, passed}
+use Rattle.verbs_laws.proofs.Facts.{MayPost, MayPost_by_step, MayPostFull, MayPostFull_by_step, MayPoll, MayPoll_by_step, MayPublish, MayPublish_by_step}
 use Rattle.actor_map.specs.declared.note.TheConstants.{POST, POST_FULL, POLL, RETIRE, ACK, FETCH}
 use Rattle.actor_map.specs.Notes.{queue_number, note_of}
 

@@ -1,13 +1,13 @@
 -- What an entry leaves of the calls that are behind.
 use Rattle.std.proofs.Common.{◌≡◌, ◌≢◌, ℕ, suc, ◌<◌, List, [], ◌∷◌, length, set, refl, sym, ap, subst, ◌∙◌, arith, slice_index_or}
 use Rattle.std.proofs.lemmas.List.{length-set, get_or-set_same, get_or-set_other}
-use Rattle.verbs_model.specs.declared.call.Call.{Call}
-use Rattle.verbs_model.specs.declared.completion.Completion.{Completion}
-use Rattle.verbs_model.specs.declared.entry.Entry.{Entry}
-use Rattle.verbs_model.specs.declared.entry.What.{What}
-use Rattle.verbs_model.specs.declared.entry.What.TheVariants.{Poll, Publish}
-use Rattle.verbs_model.specs.declared.request.Item.{Item}
-use Rattle.verbs_model.specs.Answered.{Due, Posting as PostingDue, Accepting, Polling, Draining, Retiring, Acking, MayAnswer, after_answer}
+use Rattle.verbs_types.specs.declared.call.Call.{Call}
+use Rattle.verbs_types.specs.declared.completion.Completion.{Completion}
+use Rattle.verbs_types.specs.declared.entry.Entry.{Entry}
+use Rattle.verbs_types.specs.declared.entry.What.{What}
+use Rattle.verbs_types.specs.declared.entry.What.TheVariants.{Poll, Publish}
+use Rattle.verbs_types.specs.declared.request.Item.{Item}
+use Rattle.verbs_rules.specs.Answered.{Due, Posting as PostingDue, Accepting, Polling, Draining, Retiring, Acking, MayAnswer, after_answer}
 use Rattle.noted_history.specs.declared.posting.Posting.{Posting}
 use Rattle.noted_history.specs.Behind.{owed_lists, IsCut, IsBehind}
 use Rattle.noted_history.specs.Posting.{lists_from}

@@ -1,8 +1,8 @@
 -- From one call to the next.
 use Rattle.std.proofs.Common.{◌≡◌, ◌≢◌, ℕ, zero, suc, ◌+◌, ◌<◌, List, [], ◌∷◌, ◌++◌, length, refl, ap, ◌∙◌, arith, Some, slice_get}
 use Rattle.std.specs.List.{flat_map}
-use Rattle.verbs_model.specs.declared.call.Call.{Call}
-use Rattle.verbs_model.specs.declared.request.Item.{Item}
+use Rattle.verbs_types.specs.declared.call.Call.{Call}
+use Rattle.verbs_types.specs.declared.request.Item.{Item}
 use Rattle.noted_history.specs.Posting.{list_of, lists_from}
 
 from_here : (calls : List Call) (place : ℕ) (c : Call) → slice_get calls place ≡ Some c → lists_from calls place ≡ list_of c ++ lists_from calls (place + 1)

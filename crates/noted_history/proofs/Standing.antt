@@ -6,22 +6,22 @@ use Rattle.std.proofs.lemmas.Bool.Decides.{eqb_tells}
 use Rattle.std.proofs.lemmas.List.{append-nil, append_assoc, get_or-replicate, get_or_past, length-replicate}
 use Rattle.bus_core.specs.Follow.{Follows}
 use Rattle.bus_core.specs.declared.turn.Note.{Note}
-use Rattle.verbs_model.specs.declared.call.Call.{Call}
-use Rattle.verbs_model.specs.declared.entry.Entry.{Entry}
-use Rattle.verbs_model.specs.declared.entry.What.{What}
-use Rattle.verbs_model.specs.Answered.{Due, MayAnswer, after_answer, due_by, own_entries}
-use Rattle.verbs_model.specs.Legal.{IsLegal}
-use Rattle.verbs_model.specs.State.{Verbs}
-use Rattle.verbs_model.specs.Step.{after_entry}
+use Rattle.verbs_types.specs.declared.call.Call.{Call}
+use Rattle.verbs_types.specs.declared.entry.Entry.{Entry}
+use Rattle.verbs_types.specs.declared.entry.What.{What}
+use Rattle.verbs_rules.specs.Answered.{Due, MayAnswer, after_answer, due_by, own_entries}
+use Rattle.verbs_rules.specs.Legal.{IsLegal}
+use Rattle.verbs_rules.specs.State.{Verbs}
+use Rattle.verbs_rules.specs.Step.{after_entry}
 use Rattle.verbs_model.specs.Tables.{state_of}
-use Rattle.noted_history.specs.declared.log.Made.{Made}
-use Rattle.noted_history.specs.declared.log.Made.TheVariants.{Nothing, Operation, Entry as TheEntry}
-use Rattle.noted_history.specs.declared.log.Turn.{Turn}
+use Rattle.noted_history.specs.declared.log.TurnResult.{TurnResult}
+use Rattle.noted_history.specs.declared.log.TurnResult.TheVariants.{Nothing, Operation, Entry as TheEntry}
+use Rattle.noted_history.specs.declared.log.TurnRecord.{TurnRecord}
 use Rattle.noted_history.specs.declared.posting.Posting.{Posting}
 use Rattle.noted_history.specs.declared.teller.Teller.{Teller}
 use Rattle.noted_history.specs.Behind.{IsBehind}
 use Rattle.noted_history.specs.Telling.{behind_of, MayOwe, Owes, Tells, MovesOn, Takes}
-use Rattle.noted_history.specs.Told.{Noted, note_by, noted, AreNotes, IsTold}
+use Rattle.noted_history.specs.OfNotes.{Noted, note_by, noted, AreNotes, HasNotes}
 use Rattle.noted_history.proofs.Posts.{behind_first}
 
 -- A thread may make these entries.
@@ -31,13 +31,13 @@ pub record MayMake (programs : List (List Call)) (postings : List Posting) (thre
   pub answers : Follows MayAnswer after_answer dues entries
 
 -- These entries are left, which the turns that are left note.
-pub record IsLeft (t : Teller) (programs : List (List Call)) (turns : List Turn) (rest : List Entry) : Type 0 where
+pub record IsLeft (t : Teller) (programs : List (List Call)) (turns : List TurnRecord) (rest : List Entry) : Type 0 where
   pub legal : IsLegal (state_of t.state) rest
   pub made : (thread : ℕ) → MayMake programs t.postings.items thread (own_entries (suc thread) rest)
   pub notes : AreNotes (noted turns) rest
 
 -- The entries so far are the front of the history.
-pub record Stands (t : Teller) (programs : List (List Call)) (turns : List Turn) (history : List Entry) (h : List Entry) : Type 0 where
+pub record Stands (t : Teller) (programs : List (List Call)) (turns : List TurnRecord) (history : List Entry) (h : List Entry) : Type 0 where
   pub rest : List Entry
   pub split : h ≡ history ++ rest
   pub left : IsLeft t programs turns rest
@@ -50,7 +50,7 @@ none_behind threads thread = elim (cases_lt thread threads) [
   | inr past ↦ ap (λ (p : Posting). p.behind) (get_or_past (replicate threads (record { behind = 0 })) thread (record { behind = 0 }) (omega (arith, past, length-replicate {A = Posting} threads (record { behind = 0 }))))
 ]
 
-pub stands_first : (t : Teller) (programs : List (List Call)) (turns : List Turn) (v : Verbs) (threads : ℕ) (h : List Entry) → IsTold v programs turns h → state_of t.state ≡ v → t.postings.items ≡ replicate threads (record { behind = 0 }) → Stands t programs turns [] h
+pub stands_first : (t : Teller) (programs : List (List Call)) (turns : List TurnRecord) (v : Verbs) (threads : ℕ) (h : List Entry) → HasNotes v programs turns h → state_of t.state ≡ v → t.postings.items ≡ replicate threads (record { behind = 0 }) → Stands t programs turns [] h
 stands_first t programs turns v threads h told state_is postings_are = record {
   rest = h;
   split = refl;
@@ -66,12 +66,12 @@ stands_first t programs turns v threads h told state_is postings_are = record {
 }
 
 -- A turn with no entry leaves all as it is.
-pub no_note : (actor : ℕ) (made : Made) → ((note : Note) → made ≡ TheEntry note → ⊥) → note_by actor made ≡ None
+pub no_note : (actor : ℕ) (made : TurnResult) → ((note : Note) → made ≡ TheEntry note → ⊥) → note_by actor made ≡ None
 no_note actor Nothing none = refl
 no_note actor Operation none = refl
 no_note actor (TheEntry note) none = absurd (none note refl)
 
-pub stands_over : (t : Teller) (programs : List (List Call)) (turn : Turn) (turns : List Turn) (history h : List Entry) → note_by turn.actor turn.made ≡ None → Stands t programs (turn ∷ turns) history h → Stands t programs turns history h
+pub stands_over : (t : Teller) (programs : List (List Call)) (turn : TurnRecord) (turns : List TurnRecord) (history h : List Entry) → note_by turn.actor turn.made ≡ None → Stands t programs (turn ∷ turns) history h → Stands t programs turns history h
 stands_over t programs turn turns history h none s = record {
   rest = s.rest;
   split = s.split;
@@ -84,7 +84,7 @@ stands_over t programs turn turns history h none s = record {
 
 -- The next turn has a note, and the next entry is what it tells.
 
-pub record IsNextOf (t : Teller) (programs : List (List Call)) (n : Noted) (turns : List Turn) (rest : List Entry) : Type 0 where
+pub record IsNextOf (t : Teller) (programs : List (List Call)) (n : Noted) (turns : List TurnRecord) (rest : List Entry) : Type 0 where
   pub entry : Entry
   pub later : List Entry
   pub rest_is : rest ≡ entry ∷ later
@@ -98,7 +98,7 @@ owes_next programs postings thread e later may by =
     let answers = subst (λ (b : Bool). Follows MayAnswer after_answer may.dues (if b then e.what ∷ own_entries (suc thread) later else own_entries (suc thread) later)) (eq-eqb e.actor (suc thread) by) may.answers in
     record { dues = may.dues; may_owe = may.may_owe; answers = answers.0 }
 
-next_by_notes : (t : Teller) (programs : List (List Call)) (n : Noted) (turns : List Turn) (rest : List Entry) → IsLegal (state_of t.state) rest → ((thread : ℕ) → MayMake programs t.postings.items thread (own_entries (suc thread) rest)) → AreNotes (n ∷ noted turns) rest → IsNextOf t programs n turns rest
+next_by_notes : (t : Teller) (programs : List (List Call)) (n : Noted) (turns : List TurnRecord) (rest : List Entry) → IsLegal (state_of t.state) rest → ((thread : ℕ) → MayMake programs t.postings.items thread (own_entries (suc thread) rest)) → AreNotes (n ∷ noted turns) rest → IsNextOf t programs n turns rest
 next_by_notes t programs n turns [] legal made notes = absurd notes
 next_by_notes t programs n turns (e ∷ later) legal made notes = record {
   entry = e;
@@ -110,7 +110,7 @@ next_by_notes t programs n turns (e ∷ later) legal made notes = record {
   notes = notes.1;
 }
 
-pub next_of : (t : Teller) (programs : List (List Call)) (turn : Turn) (n : Noted) (turns : List Turn) (history h : List Entry) → note_by turn.actor turn.made ≡ Some n → (s : Stands t programs (turn ∷ turns) history h) → IsNextOf t programs n turns s.rest
+pub next_of : (t : Teller) (programs : List (List Call)) (turn : TurnRecord) (n : Noted) (turns : List TurnRecord) (history h : List Entry) → note_by turn.actor turn.made ≡ Some n → (s : Stands t programs (turn ∷ turns) history h) → IsNextOf t programs n turns s.rest
 next_of t programs turn n turns history h some s = next_by_notes t programs n turns s.rest s.left.legal s.left.made (subst (λ (o : Option Noted). AreNotes (cons_option o (noted turns)) s.rest) some s.left.notes)
 
 -- The entry was taken.
@@ -126,7 +126,7 @@ makes_later programs old new thread e later moves may =
           record { dues = may.dues; may_owe = subst (λ n. IsBehind (slice_index_or programs thread []) n may.dues) (sym (moves.others thread other.1)) may.may_owe; answers = answers })
     ]
 
-pub stands_next : (t t' : Teller) (programs : List (List Call)) (n : Noted) (turns : List Turn) (history h rest : List Entry) (next : IsNextOf t programs n turns rest) (told : Entry) → h ≡ history ++ rest → Takes t t' programs next.entry told → Stands t' programs turns (history ++ told ∷ []) h
+pub stands_next : (t t' : Teller) (programs : List (List Call)) (n : Noted) (turns : List TurnRecord) (history h rest : List Entry) (next : IsNextOf t programs n turns rest) (told : Entry) → h ≡ history ++ rest → Takes t t' programs next.entry told → Stands t' programs turns (history ++ told ∷ []) h
 stands_next t t' programs n turns history h rest next told split takes = record {
   rest = next.later;
   split = split ∙ (ap (λ (es : List Entry). history ++ es) next.rest_is ∙ (sym (append_assoc history (next.entry ∷ []) next.later) ∙ ap (λ (e : Entry). (history ++ e ∷ []) ++ next.later) (sym takes.told_is)));

@@ -4,13 +4,13 @@ use Rattle.std.specs.List.{flat_map}
 use Rattle.std.proofs.lemmas.Bool.{cases_lt}
 use Rattle.std.proofs.lemmas.Bool.Decides.{eqb_tells}
 use Rattle.std.proofs.lemmas.List.{get_or_past, get_or_read, drop_all}
-use Rattle.verbs_model.specs.declared.call.Call.{Call}
-use Rattle.verbs_model.specs.declared.completion.Queue.{Queue}
-use Rattle.verbs_model.specs.declared.entry.Entry.{Entry}
-use Rattle.verbs_model.specs.declared.entry.What.{What}
-use Rattle.verbs_model.specs.declared.entry.What.TheVariants.{Post, PostFull}
-use Rattle.verbs_model.specs.declared.request.Item.{Item}
-use Rattle.verbs_model.specs.Answered.{Due, MayAnswer, after_answer}
+use Rattle.verbs_types.specs.declared.call.Call.{Call}
+use Rattle.verbs_types.specs.declared.completion.Queue.{Queue}
+use Rattle.verbs_types.specs.declared.entry.Entry.{Entry}
+use Rattle.verbs_types.specs.declared.entry.What.{What}
+use Rattle.verbs_types.specs.declared.entry.What.TheVariants.{Post, PostFull}
+use Rattle.verbs_types.specs.declared.request.Item.{Item}
+use Rattle.verbs_rules.specs.Answered.{Due, MayAnswer, after_answer}
 use Rattle.noted_history.specs.declared.posting.Posting.{Posting}
 use Rattle.noted_history.specs.Behind.{IsBehind}
 use Rattle.noted_history.specs.Posting.{list_of, lists_from, TakesNext}

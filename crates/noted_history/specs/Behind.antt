@@ -1,8 +1,8 @@
 -- What a thread still posts, by what it owes and by how many of its calls are behind.
 use Rattle.std.specs.Prelude.{◌≡◌, ℕ, List, [], ◌∷◌, take, flat_map}
-use Rattle.verbs_model.specs.declared.call.Call.{Call}
-use Rattle.verbs_model.specs.declared.request.Item.{Item}
-use Rattle.verbs_model.specs.Answered.{Due, Posting, Accepting}
+use Rattle.verbs_types.specs.declared.call.Call.{Call}
+use Rattle.verbs_types.specs.declared.request.Item.{Item}
+use Rattle.verbs_rules.specs.Answered.{Due, Posting, Accepting}
 use Rattle.noted_history.specs.Posting.{lists_from}
 
 -- the lists that are owed

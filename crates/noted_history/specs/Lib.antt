@@ -1,5 +1,5 @@
 pub mod Posting
 pub mod Behind
 pub mod Marks
-pub mod Told
+pub mod OfNotes
 pub mod Telling

@@ -1,16 +1,16 @@
 -- One entry that a note tells, by the state and by how many calls are behind.
 use Rattle.std.specs.Prelude.{ℕ, suc, ◌≡◌, ◌≢◌, List, [], length, slice_index_or}
-use Rattle.verbs_model.specs.declared.call.Call.{Call}
-use Rattle.verbs_model.specs.declared.entry.Entry.{Entry}
-use Rattle.verbs_model.specs.declared.entry.What.{What}
-use Rattle.verbs_model.specs.declared.entry.What.TheVariants.{PostFull}
-use Rattle.verbs_model.specs.Answered.{Due, MayAnswer, after_answer}
-use Rattle.verbs_model.specs.Step.{MayStep, after_entry}
+use Rattle.verbs_types.specs.declared.call.Call.{Call}
+use Rattle.verbs_types.specs.declared.entry.Entry.{Entry}
+use Rattle.verbs_types.specs.declared.entry.What.{What}
+use Rattle.verbs_types.specs.declared.entry.What.TheVariants.{PostFull}
+use Rattle.verbs_rules.specs.Answered.{Due, MayAnswer, after_answer}
+use Rattle.verbs_rules.specs.Step.{MayStep, after_entry}
 use Rattle.verbs_model.specs.Tables.{state_of}
 use Rattle.noted_history.specs.declared.posting.Posting.{Posting}
 use Rattle.noted_history.specs.declared.teller.Teller.{Teller}
 use Rattle.noted_history.specs.Behind.{IsBehind}
-use Rattle.noted_history.specs.Told.{Noted, IsNoteOf}
+use Rattle.noted_history.specs.OfNotes.{Noted, IsNoteOf}
 
 -- how many calls of a thread are behind, and none of a thread that there is not
 abbrev pub behind_of : List Posting → ℕ → ℕ

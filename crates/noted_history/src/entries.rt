@@ -1,13 +1,14 @@
 //! The history that the notes of a run tell.
 ghost use Rattle.std.specs.Prelude.{◌≡◌, List, IfOk};
-ghost use Rattle.verbs_model.specs.declared.entry.Entry.{Entry};
+ghost use Rattle.verbs_types.specs.declared.entry.Entry.{Entry};
 ghost use Rattle.verbs_model.specs.Tables.{state_of};
-ghost use Rattle.noted_history.specs.Told.{IsTold};
+ghost use Rattle.noted_history.specs.OfNotes.{HasNotes};
 
-use crate::log::{Made, Turn};
+use crate::log::{TurnRecord, TurnResult};
 use crate::teller::Teller;
 use std::alloc::Global;
-use verbs_model::{Abstract, Call, Entry, NoMemory, Sequence};
+use verbs_model::Abstract;
+use verbs_types::{Call, Entry, NoMemory, Sequence};
 
 /// The entries of these turns, in order, from this state on. A note tells an entry by its numbers; the lists of the
 /// entry are those of the thread's call, of the completions that no poll took, and of what the adapter owes.
@@ -18,15 +19,15 @@ pub fn history_of(
     alloc: Global,
     first: Abstract,
     programs: &[Sequence<Call>],
-    log: &[Turn],
+    log: &[TurnRecord],
 ) -> Result<Vec<Entry>, NoMemory>
-    requires told { (h : List Entry) × IsTold (state_of first) programs.now log.now h }
-    ensures told { (h : List Entry) → IsTold (state_of first) programs.now log.now h → IfOk result (λ v. v.items ≡ h) }
+    requires told { (h : List Entry) × HasNotes (state_of first) programs.now log.now h }
+    ensures told { (h : List Entry) → HasNotes (state_of first) programs.now log.now h → IfOk result (λ v. v.items ≡ h) }
 {
     let mut teller = Teller::new(alloc, first, programs.len())?;
     let mut history = Vec::new(alloc);
     for turn in log {
-        let Made::Entry(note) = turn.made else {
+        let TurnResult::Entry(note) = turn.made else {
             continue
         };
         let entry = teller.entry(alloc, programs, turn.actor, note)?;

@@ -4,7 +4,7 @@ use bus_core::Note;
 
 /// What a turn made.
 #[derive(Clone, Copy, Debug, PartialEq, Eq, Drop)]
-pub enum Made {
+pub enum TurnResult {
     /// No operation: the actor has ended.
     Nothing,
     /// An operation that stands for no entry of the history.
@@ -15,7 +15,7 @@ pub enum Made {
 
 /// A turn, and whose it was.
 #[derive(Clone, Copy, Debug, PartialEq, Eq, Drop)]
-pub struct Turn {
+pub struct TurnRecord {
     pub actor: u8,
-    pub made: Made,
+    pub made: TurnResult,
 }

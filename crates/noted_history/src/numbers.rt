@@ -1,13 +1,14 @@
 //! What the numbers of a note stand for.
 ghost use Rattle.std.specs.Prelude.{◌≡◌, ℕ, ◌∷◌, ◌≤◌, List, length, map, take, IsTrue, IfOk};
 ghost use Rattle.actor_map.specs.Notes.{queue_number};
-ghost use Rattle.verbs_model.specs.declared.completion.Queue.{Queue};
-ghost use Rattle.verbs_model.specs.declared.state.Act.{Act};
-ghost use Rattle.verbs_model.specs.declared.state.Unpolled.{Unpolled};
+ghost use Rattle.verbs_types.specs.declared.completion.Queue.{Queue};
+ghost use Rattle.verbs_types.specs.declared.state.Act.{Act};
+ghost use Rattle.verbs_types.specs.declared.state.Unpolled.{Unpolled};
 ghost use Rattle.verbs_model.specs.Tables.{state_of};
 
 use std::alloc::Global;
-use verbs_model::{Abstract, Act, Completion, NoMemory, Queue};
+use verbs_model::Abstract;
+use verbs_types::{Act, Completion, NoMemory, Queue};
 
 /// The queue of this number: 4 times its object's, plus 0 for sends, 1 for receives and 2 for shared receives.
 pub(crate) fn queue_of(number: u32) -> Queue

@@ -1,11 +1,11 @@
 //! A thread's calls to post, one after another.
 ghost use Rattle.std.specs.Prelude.{◌≡◌, ◌≢◌, ◌==◌, [], ◌∷◌, List, IfOk, MatchBool, take, map};
-ghost use Rattle.verbs_model.specs.declared.request.Item.{Item};
-ghost use Rattle.verbs_model.specs.declared.request.Item.TheVariants.{Request as TheRequest, Receive as TheReceive};
+ghost use Rattle.verbs_types.specs.declared.request.Item.{Item};
+ghost use Rattle.verbs_types.specs.declared.request.Item.TheVariants.{Request as TheRequest, Receive as TheReceive};
 ghost use Rattle.noted_history.specs.Posting.{IsNext, TakesNext, list_of, lists_from};
 
 use std::alloc::{AllocError, Global};
-use verbs_model::{Call, Item, NoMemory, Receive, Request};
+use verbs_types::{Call, Item, NoMemory, Receive, Request};
 
 /// How many of a thread's calls are behind, where calls that do not post are passed over.
 #[derive(Clone, Copy, Debug, PartialEq, Eq)]

@@ -1,6 +1,6 @@
 //! One entry after another, each told by its note.
 ghost use Rattle.std.specs.Prelude.{◌≡◌, replicate, IfOk};
-ghost use Rattle.verbs_model.specs.declared.entry.Entry.{Entry};
+ghost use Rattle.verbs_types.specs.declared.entry.Entry.{Entry};
 ghost use Rattle.noted_history.specs.Telling.{CanTell, Tells, Says, Takes};
 
 use crate::numbers::{first_unpolled, owed_completion, queue_of};
@@ -8,7 +8,8 @@ use crate::posting::Posting;
 use actor_map::{ACK, FETCH, POLL, POST, POST_FULL, RETIRE};
 use bus_core::Note;
 use std::alloc::Global;
-use verbs_model::{Abstract, Call, Entry, NoMemory, Sequence, What};
+use verbs_model::Abstract;
+use verbs_types::{Call, Entry, NoMemory, Sequence, What};
 
 /// How far a history is told.
 #[derive(Drop)]

@@ -1,8 +1,8 @@
 -- Each queue lies as its crate asks for.
 use Rattle.std.proofs.Common.{◌≡◌, ℕ, ◌+◌, ◌^◌, ◌≤◌, inr, arith, Some}
 use Rattle.std.proofs.Math.Pow.{pow_mono}
-use Rattle.verbs_model.specs.declared.declaration.CqLine.{CqLine}
-use Rattle.verbs_model.specs.declared.declaration.QpLine.{QpLine}
+use Rattle.verbs_types.specs.declared.declaration.CqLine.{CqLine}
+use Rattle.verbs_types.specs.declared.declaration.QpLine.{QpLine}
 use Rattle.actor_map.specs.Limits.{IsQpSize}
 use Rattle.actor_map.specs.Sizes.{stride, cq_words, send_words, receive_words}
 use Rattle.owner_ring.specs.Place as ring

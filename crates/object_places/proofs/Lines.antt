@@ -2,12 +2,12 @@
 use Rattle.std.proofs.Common.{ℕ, ◌-◌, ◌^◌, ◌<◌, ◌≤◌, length, get_or, IsTrue, nat_le, nat_lt, leb-true, arith}
 use Rattle.std.proofs.lemmas.Bool.{and_parts, ltb-true}
 use Rattle.std.proofs.lemmas.List.Sums.{AllPass-from_list_all}
-use Rattle.verbs_model.specs.Lines.{is_among, is_declared, is_eq_line, is_cq_line, is_qp_line}
-use Rattle.verbs_model.specs.declared.declaration.EqLine.{EqLine}
-use Rattle.verbs_model.specs.declared.declaration.CqLine.{CqLine}
-use Rattle.verbs_model.specs.declared.declaration.QpLine.{QpLine}
-use Rattle.verbs_model.specs.declared.declaration.Lines.{Lines}
-use Rattle.verbs_model.specs.declared.declaration.TheConstants.{FIRST_QP}
+use Rattle.verbs_types.specs.Lines.{is_among, is_declared, is_eq_line, is_cq_line, is_qp_line}
+use Rattle.verbs_types.specs.declared.declaration.EqLine.{EqLine}
+use Rattle.verbs_types.specs.declared.declaration.CqLine.{CqLine}
+use Rattle.verbs_types.specs.declared.declaration.QpLine.{QpLine}
+use Rattle.verbs_types.specs.declared.declaration.Lines.{Lines}
+use Rattle.verbs_types.specs.declared.declaration.TheConstants.{FIRST_QP}
 use Rattle.actor_map.specs.Limits.{IsEqSize, IsQpSize}
 use Rattle.object_places.specs.Places.{cq_line, no_cq, qp_line, no_qp}
 

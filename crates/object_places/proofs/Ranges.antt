@@ -1,8 +1,8 @@
 -- The ranges of each queue's words.
 use Rattle.std.proofs.Common.{◌≡◌, ℕ, ◌+◌, ◌^◌, ◌<◌, ◌≤◌, inl, inr, arith, Some, true}
 use Rattle.std.proofs.Math.Pow.{pow_mono}
-use Rattle.verbs_model.specs.declared.declaration.CqLine.{CqLine}
-use Rattle.verbs_model.specs.declared.declaration.QpLine.{QpLine}
+use Rattle.verbs_types.specs.declared.declaration.CqLine.{CqLine}
+use Rattle.verbs_types.specs.declared.declaration.QpLine.{QpLine}
 use Rattle.actor_map.specs.Sizes.{stride, cq_words, qp_words, send_words, receive_words}
 use Rattle.owner_ring.specs.Place as ring
 use Rattle.owner_ring.proofs.Slots as ring_slots

@@ -1,7 +1,7 @@
 -- What holds of the words of all queues.
 use Rattle.std.specs.Prelude.{ℕ, ◌≡◌, ◌≢◌, ◌<◌, ◌≤◌, IsTrue, true, false}
-use Rattle.verbs_model.specs.declared.declaration.Lines.{Lines}
-use Rattle.verbs_model.specs.Lines.{is_declared}
+use Rattle.verbs_types.specs.declared.declaration.Lines.{Lines}
+use Rattle.verbs_types.specs.Lines.{is_declared}
 use Rattle.actor_map.specs.declared.sizes.TheConstants.{FIRST_OBJECT}
 use Rattle.actor_map.specs.Sizes.{words_of}
 use Rattle.actor_map.specs.Start.{start_words}

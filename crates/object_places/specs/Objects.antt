@@ -1,8 +1,8 @@
 -- The queues of declared objects, and what an operation of an actor is about.
 use Rattle.std.specs.Prelude.{ℕ, Bool, IsTrue, length}
-use Rattle.verbs_model.specs.declared.declaration.Lines.{Lines}
-use Rattle.verbs_model.specs.declared.declaration.TheConstants.{FIRST_QP}
-use Rattle.verbs_model.specs.Lines.{is_among}
+use Rattle.verbs_types.specs.declared.declaration.Lines.{Lines}
+use Rattle.verbs_types.specs.declared.declaration.TheConstants.{FIRST_QP}
+use Rattle.verbs_types.specs.Lines.{is_among}
 use Rattle.owner_ring.specs.Place as ring
 use Rattle.cq_pair.specs.Mark.{QueueMark}
 use Rattle.cq_pair.specs.Place.{ring_of}

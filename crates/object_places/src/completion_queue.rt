@@ -2,7 +2,7 @@
 ghost use Rattle.std.specs.Prelude.{◌≡◌, ◌≤◌, ◌+◌, ◌^◌, IsTrue, length};
 ghost use Rattle.owner_ring.specs.Place.{IsPlace};
 ghost use Rattle.cq_pair.specs.Place.{ring_of};
-ghost use Rattle.verbs_model.specs.Lines.{is_among};
+ghost use Rattle.verbs_types.specs.Lines.{is_among};
 ghost use Rattle.actor_map.specs.Map.{first_word, map_of};
 ghost use Rattle.actor_map.specs.declared.kind.ObjectKind.TheVariants.{Cq};
 ghost use Rattle.actor_map.specs.Limits.{IsCqSize};
@@ -12,7 +12,7 @@ ghost use Rattle.object_places.specs.Places as words;
 use crate::sizes::places;
 use actor_map::{AddressMap, ObjectKind, laws};
 use cq_pair::CqPlace;
-use verbs_model::{CqLine, Declared};
+use verbs_types::{CqLine, Declared};
 
 /// The place of the completion queue `object`: its two areas, of which each has as many entries as the queue may
 /// ever have, its doorbell record of two words, its arm register and its arm sequence number.

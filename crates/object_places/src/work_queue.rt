@@ -1,8 +1,8 @@
 //! Where the send and the receive queue of a queue pair lie.
 ghost use Rattle.std.specs.Prelude.{◌≡◌, ◌≤◌, ◌+◌, ◌^◌, IsTrue, length};
 ghost use Rattle.counted_ring.specs.Place.{IsPlace};
-ghost use Rattle.verbs_model.specs.Lines.{is_among};
-ghost use Rattle.verbs_model.specs.declared.declaration.TheConstants.{FIRST_QP};
+ghost use Rattle.verbs_types.specs.Lines.{is_among};
+ghost use Rattle.verbs_types.specs.declared.declaration.TheConstants.{FIRST_QP};
 ghost use Rattle.actor_map.specs.Map.{first_word, map_of};
 ghost use Rattle.actor_map.specs.declared.kind.ObjectKind.TheVariants.{Qp};
 ghost use Rattle.actor_map.specs.Limits.{IsQpSize};
@@ -12,7 +12,7 @@ ghost use Rattle.object_places.specs.Places as words;
 use crate::sizes::{places, stride};
 use actor_map::{AddressMap, ObjectKind, laws};
 use counted_ring::WqPlace;
-use verbs_model::{Declared, FIRST_QP, QpLine};
+use verbs_types::{Declared, FIRST_QP, QpLine};
 
 /// The place of the send queue of the queue pair `object`: four blocks of 8 words for each request that
 /// may be posted, an id and a head word a block, and the tail. Behind the receive queue stand the record,

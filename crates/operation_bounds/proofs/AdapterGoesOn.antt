@@ -4,7 +4,7 @@ use Rattle.std.specs.List.{fold}
 use Rattle.std.proofs.lemmas.Bool.{false≢true}
 use Rattle.std.proofs.lemmas.List.Sums.{fold-append}
 use Rattle.bus_core.specs.Mark.{Marked}
-use Rattle.verbs_model.specs.declared.declaration.Lines.{Lines}
+use Rattle.verbs_types.specs.declared.declaration.Lines.{Lines}
 use Rattle.cqe_format.specs.declared.completion.Cqe.{Cqe}
 use Rattle.object_places.specs.Objects.{Mark}
 use Rattle.device_engine.specs.Event.{AdapterEvent, Fetched, Published}

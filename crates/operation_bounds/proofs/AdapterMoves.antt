@@ -4,9 +4,9 @@ use Rattle.std.proofs.lemmas.Bool.{eqb-false, false≢true}
 use Rattle.std.proofs.lemmas.List.{length-append}
 use Rattle.bus_core.specs.declared.operation.BusEntry.{BusEntry}
 use Rattle.bus_core.specs.Operation.{loaded, stored}
-use Rattle.verbs_model.specs.declared.declaration.Lines.{Lines}
-use Rattle.verbs_model.specs.declared.declaration.TheConstants.{FIRST_QP}
-use Rattle.verbs_model.specs.Lines.{is_among}
+use Rattle.verbs_types.specs.declared.declaration.Lines.{Lines}
+use Rattle.verbs_types.specs.declared.declaration.TheConstants.{FIRST_QP}
+use Rattle.verbs_types.specs.Lines.{is_among}
 use Rattle.cqe_format.specs.declared.completion.Cqe.{Cqe}
 use Rattle.owner_ring.specs.Place.{size, distance, index_of_record}
 use Rattle.owner_ring.specs.Producer.{Producer, Ready, Filling, after_produce, produced}

@@ -5,9 +5,9 @@ use Rattle.std.proofs.lemmas.List.Sums.{fold-append}
 use Rattle.bus_core.specs.declared.operation.BusEntry.{BusEntry}
 use Rattle.bus_core.specs.Mark.{Marked}
 use Rattle.bus_core.specs.Operation.{IsLoad}
-use Rattle.verbs_model.specs.declared.call.Call.{Call}
-use Rattle.verbs_model.specs.declared.call.Call.TheVariants.{Drain}
-use Rattle.verbs_model.specs.declared.declaration.Lines.{Lines}
+use Rattle.verbs_types.specs.declared.call.Call.{Call}
+use Rattle.verbs_types.specs.declared.call.Call.TheVariants.{Drain}
+use Rattle.verbs_types.specs.declared.declaration.Lines.{Lines}
 use Rattle.owner_ring.specs.Consumer.{Consumer, Waiting, Reading, next_index}
 use Rattle.owner_ring.specs.Place.{slot}
 use Rattle.cq_pair.specs.Host.{MayPoll}

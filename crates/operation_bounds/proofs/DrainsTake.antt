@@ -7,18 +7,18 @@ use Rattle.bus_core.specs.declared.operation.BusEntry.{BusEntry}
 use Rattle.bus_core.specs.declared.turn.Step.{Step}
 use Rattle.bus_core.specs.declared.turn.Step.TheVariants.{More, Gave, Done}
 use Rattle.bus_core.specs.Mark.{Marked}
-use Rattle.verbs_model.specs.declared.call.Call.{Call}
-use Rattle.verbs_model.specs.declared.call.Call.TheVariants.{Drain}
-use Rattle.verbs_model.specs.declared.completion.Completion.{Completion}
-use Rattle.verbs_model.specs.declared.declaration.Lines.{Lines}
-use Rattle.verbs_model.specs.declared.entry.What.TheVariants.{Poll}
+use Rattle.verbs_types.specs.declared.call.Call.{Call}
+use Rattle.verbs_types.specs.declared.call.Call.TheVariants.{Drain}
+use Rattle.verbs_types.specs.declared.completion.Completion.{Completion}
+use Rattle.verbs_types.specs.declared.declaration.Lines.{Lines}
+use Rattle.verbs_types.specs.declared.entry.What.TheVariants.{Poll}
 use Rattle.owner_ring.specs.Consumer.{Consumer, Waiting, Reading, next_index}
 use Rattle.object_places.specs.Objects.{Mark}
 use Rattle.provider_poll.specs.declared.answer.PollAnswer.{PollAnswer}
 use Rattle.provider_poll.specs.declared.state.PollState.{PollState}
 use Rattle.provider_poll.specs.declared.state.PollState.TheVariants as states
 use Rattle.provider_poll.specs.Rule.{PollPlace, PollRule, PollMark, OnHost, OnQueue}
-use Rattle.provider_poll.specs.RuleTurned.{poll_side_turned, after_poll_side}
+use Rattle.provider_poll.specs.RuleStep.{poll_side_step, after_poll_side}
 use Rattle.actor_rules.specs.Calls.{MayCall, MayThread, after_call, after_thread, call_says, thread_says}
 use Rattle.actor_rules.specs.Polling.{MayPoll as MayPollIn, begun, poll_now, poll_mark, polled, is_loading, load_says, given_with, store_says, took_some, calls_after_drain}
 use Rattle.actor_rules.specs.Ready.{IsOwnCall}
@@ -56,7 +56,7 @@ none_given given c (states.Acking taken empty) h under = absurd h
 never_idle : (c : Consumer) (state : PollState) → IsTaking c state → state ≡ states.Idle → ⊥
 never_idle c state h idle = subst (IsTaking c) idle h
 
-turned_state : (place : PollPlace) (s : PollRule) (mark : PollMark) (e : BusEntry) → (after_poll_side place s mark e).state ≡ (poll_side_turned place s mark e).state
+turned_state : (place : PollPlace) (s : PollRule) (mark : PollMark) (e : BusEntry) → (after_poll_side place s mark e).state ≡ (poll_side_step place s mark e).state
 turned_state place s (OnHost mark) e = refl
 turned_state place s (OnQueue index mark) e = refl
 

@@ -3,7 +3,7 @@ use Rattle.std.proofs.Common.{◌≡◌, ℕ, ◌+◌, ◌*◌, ◌≤◌, sym, 
 use Rattle.bus_core.specs.declared.operation.BusEntry.{BusEntry}
 use Rattle.bus_core.specs.declared.turn.Step.TheVariants.{More}
 use Rattle.bus_core.specs.Operation.{IsLoad, IsStore, loaded}
-use Rattle.verbs_model.specs.declared.completion.Completion.{Completion}
+use Rattle.verbs_types.specs.declared.completion.Completion.{Completion}
 use Rattle.cqe_format.specs.declared.completion.Cqe.{Cqe}
 use Rattle.owner_ring.specs.Consumer.{Consumer, Waiting, Reading, next_index}
 use Rattle.owner_ring.specs.Place.{slot, is_owned}
@@ -17,7 +17,7 @@ use Rattle.provider_poll.specs.declared.state.End.{End}
 use Rattle.provider_poll.specs.declared.state.PollState.{PollState}
 use Rattle.provider_poll.specs.declared.state.PollState.TheVariants as states
 use Rattle.provider_poll.specs.Rule.{PollPlace, PollRule, PollMark, OnHost, OnQueue, IsNextOf, MayGoOn, MayRetireFirst}
-use Rattle.provider_poll.specs.RuleTurned.{poll_side_turned, after_poll_side}
+use Rattle.provider_poll.specs.RuleStep.{poll_side_step, after_poll_side}
 use Rattle.operation_bounds.proofs.Polls.{IsHost, IsUnderWay}
 use Rattle.operation_bounds.proofs.Takes.{IsTaking, look_begins}
 
@@ -34,7 +34,7 @@ module _ (place : PollPlace) (given : List Completion) (seen : ℕ) (rs : List R
   at_side c state = record { host = c; seen = seen; retirers = rs; state = state }
 
   abbrev pub Begins : Consumer → PollState → PollMark → Type 0
-  Begins c state mark = IsTaking (after_poll_side place (at_side c state) mark e).host (after_poll_side place (at_side c state) mark e).state × ((poll_side_turned place (at_side c state) mark e).answer ≡ More)
+  Begins c state mark = IsTaking (after_poll_side place (at_side c state) mark e).host (after_poll_side place (at_side c state) mark e).state × ((poll_side_step place (at_side c state) mark e).answer ≡ More)
 
   no_read : (acked next index last : ℕ) (words : List ℕ) (mark : QueueMark) → length words ≤ 6 → IsLoad (slot (ring_of place.cq) next 7) e → MayPoll place.cq (Reading acked next index last words) mark e → IsNextOf (Reading acked next index last words) mark → ⊥
   no_read acked next index last words (Publish completion) few look may is = is

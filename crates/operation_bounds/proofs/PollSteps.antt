@@ -5,17 +5,17 @@ use Rattle.std.proofs.lemmas.Bool.{leb-false}
 use Rattle.bus_core.specs.declared.turn.Step.{Step}
 use Rattle.bus_core.specs.declared.turn.Step.TheVariants.{More, Gave, Done}
 use Rattle.bus_core.specs.Mark.{Marked}
-use Rattle.verbs_model.specs.declared.call.Call.{Call}
-use Rattle.verbs_model.specs.declared.call.Call.TheVariants.{Poll, Drain}
-use Rattle.verbs_model.specs.declared.completion.Completion.{Completion}
-use Rattle.verbs_model.specs.declared.declaration.Lines.{Lines}
+use Rattle.verbs_types.specs.declared.call.Call.{Call}
+use Rattle.verbs_types.specs.declared.call.Call.TheVariants.{Poll, Drain}
+use Rattle.verbs_types.specs.declared.completion.Completion.{Completion}
+use Rattle.verbs_types.specs.declared.declaration.Lines.{Lines}
 use Rattle.object_places.specs.Objects.{Mark}
 use Rattle.provider_poll.specs.declared.answer.PollAnswer.{PollAnswer}
 use Rattle.provider_poll.specs.declared.answer.PollAnswer.TheVariants.{Polled}
 use Rattle.provider_poll.specs.declared.state.PollState.{PollState}
 use Rattle.provider_poll.specs.declared.state.PollState.TheVariants as states
 use Rattle.provider_poll.specs.Rule.{PollRule}
-use Rattle.provider_poll.specs.RuleTurned.{after_poll_side}
+use Rattle.provider_poll.specs.RuleStep.{after_poll_side}
 use Rattle.actor_rules.specs.Family.{put_number}
 use Rattle.actor_rules.specs.Polling.{MayPoll, begun, poll_now, poll_mark, polled, given_after, after_poll, calls_after_poll, calls_after_drain, drain_left}
 use Rattle.actor_rules.specs.Ready.{IsOwnCall}

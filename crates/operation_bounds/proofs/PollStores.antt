@@ -5,7 +5,7 @@ use Rattle.std.proofs.lemmas.List.{get_or-set_same}
 use Rattle.std.proofs.lemmas.Option.{slice_get_within, get_or_from_slice_get}
 use Rattle.bus_core.specs.declared.operation.BusEntry.{BusEntry}
 use Rattle.bus_core.specs.Operation.{loaded}
-use Rattle.verbs_model.specs.declared.completion.Completion.{Completion}
+use Rattle.verbs_types.specs.declared.completion.Completion.{Completion}
 use Rattle.cqe_format.specs.declared.completion.Cqe.{Cqe}
 use Rattle.owner_ring.specs.Consumer.{Consumer}
 use Rattle.cq_pair.specs.Mark.{QueueMark}
@@ -17,12 +17,12 @@ use Rattle.counted_ring.specs.RetirerView.{after_serve, served, is_found, lookup
 use Rattle.provider_poll.specs.declared.state.End.{End}
 use Rattle.provider_poll.specs.declared.state.PollState.{PollState}
 use Rattle.provider_poll.specs.declared.state.PollState.TheVariants.{Idle, Polling, LookingUp, Retiring, Acking}
-use Rattle.provider_poll.specs.declared.turned.Turned.{Turned}
+use Rattle.provider_poll.specs.declared.poll_step.PollStep.{PollStep}
 use Rattle.provider_poll.specs.Completion.{completion_of}
 use Rattle.provider_poll.specs.Rule.{PollPlace, PollRule, PollMark, OnHost, OnQueue, QueuePlace, MayGoOn, MayLookUp, MayRetireFirst, MayAcknowledge, queues_at, queues_of, found_before}
-use Rattle.provider_poll.specs.RuleTurned.{poll_side_turned, after_poll_side, retirer_step, retirers_with, asked_with}
+use Rattle.provider_poll.specs.RuleStep.{poll_side_step, after_poll_side, retirer_step, retirers_with, asked_with}
 use Rattle.provider_poll.specs.SendQueue.{SendView, fresh_retirer}
-use Rattle.provider_poll.specs.Turned.{after_lookup}
+use Rattle.provider_poll.specs.PollStep.{after_lookup}
 use Rattle.operation_bounds.proofs.Polls.{IsHost, IsLoading, IsUnderWay, asked_turns, lookup_few, poll_left, Goes, stores, end_goes, look_goes}
 
 -- the retirer of a queue's view
@@ -39,14 +39,14 @@ module _ (place : PollPlace) (most : ℕ) (given : List Completion) (c : Consume
   side state = record { host = c; seen = seen; retirers = rs; state = state }
 
   abbrev Result : PollState → PollMark → Type 0
-  Result state mark = IsHost (after_poll_side place (side state) mark e).host × Goes most given (poll_left c rs state) (after_poll_side place (side state) mark e) (poll_side_turned place (side state) mark e).answer
+  Result state mark = IsHost (after_poll_side place (side state) mark e).host × Goes most given (poll_left c rs state) (after_poll_side place (side state) mark e) (poll_side_step place (side state) mark e).answer
 
   -- an operation on the words of a queue whose view is known
 
   abbrev retirers_then : ℕ → WqMark → Option SendView → List Retirer
   retirers_then queue mark o = retirers_with rs queue mark e o
 
-  abbrev turned_then : PollState → ℕ → WqMark → Option SendView → Turned
+  abbrev turned_then : PollState → ℕ → WqMark → Option SendView → PollStep
   turned_then state queue mark o = asked_with place (side state) (queues_at place.queues (retirers_then queue mark o)) mark e o
 
   abbrev Served : PollState → ℕ → WqMark → Option SendView → Type 0

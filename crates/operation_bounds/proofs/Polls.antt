@@ -6,7 +6,7 @@ use Rattle.bus_core.specs.declared.operation.BusEntry.{BusEntry}
 use Rattle.bus_core.specs.declared.turn.Step.{Step}
 use Rattle.bus_core.specs.declared.turn.Step.TheVariants.{More, Gave, Done}
 use Rattle.bus_core.specs.Operation.{loaded}
-use Rattle.verbs_model.specs.declared.completion.Completion.{Completion}
+use Rattle.verbs_types.specs.declared.completion.Completion.{Completion}
 use Rattle.cqe_format.specs.declared.completion.Cqe.{Cqe}
 use Rattle.owner_ring.specs.Consumer.{Consumer, Waiting, Reading}
 use Rattle.owner_ring.specs.Place.{is_owned}
@@ -26,12 +26,12 @@ use Rattle.provider_poll.specs.Note.{poll_note}
 use Rattle.provider_poll.specs.declared.state.End.{End}
 use Rattle.provider_poll.specs.declared.state.PollState.{PollState}
 use Rattle.provider_poll.specs.declared.state.PollState.TheVariants.{Idle, Polling, LookingUp, Retiring, Acking}
-use Rattle.provider_poll.specs.declared.turned.Turned.{Turned}
+use Rattle.provider_poll.specs.declared.poll_step.PollStep.{PollStep}
 use Rattle.provider_poll.specs.Rule.{PollPlace, PollRule, OnHost, IsNextOf, MayLook, queues_of}
-use Rattle.provider_poll.specs.RuleTurned.{poll_side_turned, after_poll_side, host_step, seen_by}
+use Rattle.provider_poll.specs.RuleStep.{poll_side_step, after_poll_side, host_step, seen_by}
 use Rattle.provider_poll.specs.SendQueue.{SendView, fresh_retirer}
 use Rattle.provider_poll.specs.Stores.{may_store, from_ready, storing, storing_first}
-use Rattle.provider_poll.specs.Turned.{with_end, with_none, with_completion, after_look, place_of}
+use Rattle.provider_poll.specs.PollStep.{with_end, with_none, with_completion, after_look, place_of}
 
 -- What stands between two operations
 
@@ -118,7 +118,7 @@ stores most given c rs queues taken empty ends few = by (from_ready queues ends)
 -- What the loads make of the poll
 
 module _ (most : ℕ) (given : List Completion) (seen : ℕ) (number : ℕ) (queues : List SendView) (max : ℕ) (ends : List End) (shown before : ℕ) (h : IsLoading most given max (length ends)) where
-  abbrev Made : Consumer → List Retirer → Turned → Type 0
+  abbrev Made : Consumer → List Retirer → PollStep → Type 0
   Made c rs turned = Goes most given before (record { host = c; seen = seen; retirers = rs; state = turned.state }) turned.answer
 
   -- a completion is given
@@ -171,7 +171,7 @@ module _ (place : PollPlace) (most : ℕ) (given : List Completion) (seen : ℕ)
       IsHost c' × Goes most given before (record { host = c'; seen = seen_by place (polls c) mark e; retirers = rs; state = (after_look place.cq.number (queues_of place (polls c)) max (record { items = ends }) (seen_by place (polls c) mark e) step).state }) (after_look place.cq.number (queues_of place (polls c)) max (record { items = ends }) (seen_by place (polls c) mark e) step).answer
 
   abbrev Result : Consumer → QueueMark → Type 0
-  Result c mark = IsHost (after_poll_side place (polls c) (OnHost mark) e).host × Goes most given (poll_left c rs (polls c).state) (after_poll_side place (polls c) (OnHost mark) e) (poll_side_turned place (polls c) (OnHost mark) e).answer
+  Result c mark = IsHost (after_poll_side place (polls c) (OnHost mark) e).host × Goes most given (poll_left c rs (polls c).state) (after_poll_side place (polls c) (OnHost mark) e) (poll_side_step place (polls c) (OnHost mark) e).answer
 
   first_look : (acked next : ℕ) → Result (Waiting acked next) (Look next)
   first_look acked next = by (is_owned (ring_of place.cq) next (loaded e))

@@ -1,12 +1,12 @@
 -- What an operation of a call to post makes of its thread.
 use Rattle.std.proofs.Common.{◌≡◌, ℕ, refl, sym, ap, ◌∙◌, subst, arith, List, ◌∷◌, length, unwrap_or, Option, None, Some}
 use Rattle.std.specs.List.{AllByRecursion}
-use Rattle.verbs_model.specs.declared.call.Call.{Call}
-use Rattle.verbs_model.specs.declared.completion.Queue.{Queue}
-use Rattle.verbs_model.specs.declared.declaration.Lines.{Lines}
-use Rattle.verbs_model.specs.declared.request.Item.{Item}
-use Rattle.verbs_model.specs.Family.{put}
-use Rattle.verbs_model.specs.Same.{same_queue}
+use Rattle.verbs_types.specs.declared.call.Call.{Call}
+use Rattle.verbs_types.specs.declared.completion.Queue.{Queue}
+use Rattle.verbs_types.specs.declared.declaration.Lines.{Lines}
+use Rattle.verbs_types.specs.declared.request.Item.{Item}
+use Rattle.verbs_rules.specs.Family.{put}
+use Rattle.verbs_rules.specs.Same.{same_queue}
 use Rattle.bus_core.specs.Mark.{Marked}
 use Rattle.counted_ring.specs.Place.{IsPlace}
 use Rattle.counted_ring.specs.Poster.{Poster}

@@ -5,7 +5,7 @@ use Rattle.bus_core.specs.declared.operation.BusEntry.{BusEntry}
 use Rattle.bus_core.specs.declared.turn.Step.{Step}
 use Rattle.bus_core.specs.declared.turn.Step.TheVariants.{More, Gave, Done}
 use Rattle.bus_core.specs.Operation.{loaded}
-use Rattle.verbs_model.specs.declared.completion.Completion.{Completion}
+use Rattle.verbs_types.specs.declared.completion.Completion.{Completion}
 use Rattle.cqe_format.specs.declared.completion.Cqe.{Cqe}
 use Rattle.owner_ring.specs.Consumer.{Consumer, Waiting, Reading}
 use Rattle.owner_ring.specs.Place.{is_owned}
@@ -24,14 +24,14 @@ use Rattle.provider_poll.specs.declared.answer.PollAnswer.{PollAnswer}
 use Rattle.provider_poll.specs.declared.state.End.{End}
 use Rattle.provider_poll.specs.declared.state.PollState.{PollState}
 use Rattle.provider_poll.specs.declared.state.PollState.TheVariants.{Idle, Polling, LookingUp, Retiring, Acking}
-use Rattle.provider_poll.specs.declared.turned.Turned.{Turned}
+use Rattle.provider_poll.specs.declared.poll_step.PollStep.{PollStep}
 use Rattle.provider_poll.specs.Completion.{completion_of}
 use Rattle.provider_poll.specs.Note.{poll_note}
 use Rattle.provider_poll.specs.Rule.{PollPlace, PollRule, PollMark, OnHost, OnQueue, IsNextOf, MayGoOn, MayLookUp, queues_at, queues_of, found_before}
-use Rattle.provider_poll.specs.RuleTurned.{poll_side_turned, after_poll_side, host_step, retirer_step, retirers_with, asked_with, seen_by}
+use Rattle.provider_poll.specs.RuleStep.{poll_side_step, after_poll_side, host_step, retirer_step, retirers_with, asked_with, seen_by}
 use Rattle.provider_poll.specs.SendQueue.{SendView}
 use Rattle.provider_poll.specs.Stores.{from_ready, storing, storing_first}
-use Rattle.provider_poll.specs.Turned.{with_end, with_completion, after_look, after_lookup, place_of}
+use Rattle.provider_poll.specs.PollStep.{with_end, with_completion, after_look, after_lookup, place_of}
 use Rattle.actor_rules.specs.Polling.{is_loading}
 use Rattle.operation_bounds.proofs.Polls.{IsLoading, IsUnderWay}
 
@@ -57,7 +57,7 @@ stores_only queues taken empty ends = by (from_ready queues ends)
     by [] = refl
     by (x ∷ xs) = refl
 
-abbrev Made : Consumer → Turned → Type 0
+abbrev Made : Consumer → PollStep → Type 0
 Made c turned = Takes c turned.state turned.answer
 
 module _ (given : List Completion) (number : ℕ) (queues : List SendView) (max : ℕ) (ends : List End) (shown : ℕ) (h : IsLoading 1 given max (length ends)) (c : Consumer) where
@@ -86,10 +86,10 @@ module _ (place : PollPlace) (given : List Completion) (seen : ℕ) (rs : List R
   Looked c mark c' step = Takes c' (after_look place.cq.number (queues_of place (polls c)) max (record { items = ends }) (seen_by place (polls c) mark e) step).state (after_look place.cq.number (queues_of place (polls c)) max (record { items = ends }) (seen_by place (polls c) mark e) step).answer
 
   abbrev pub LooksOn : Consumer → QueueMark → Type 0
-  LooksOn c mark = Takes (after_poll_side place (polls c) (OnHost mark) e).host (after_poll_side place (polls c) (OnHost mark) e).state (poll_side_turned place (polls c) (OnHost mark) e).answer
+  LooksOn c mark = Takes (after_poll_side place (polls c) (OnHost mark) e).host (after_poll_side place (polls c) (OnHost mark) e).state (poll_side_step place (polls c) (OnHost mark) e).answer
 
   module _ (acked next : ℕ) where
-    abbrev shown_by : Bool → Turned
+    abbrev shown_by : Bool → PollStep
     shown_by b = after_look place.cq.number (queues_of place (polls (Waiting acked next))) max (record { items = ends }) (seen_by place (polls (Waiting acked next)) (Look next) e) (host_step e (found (if b then None else Some (ring.Empty next))))
 
     abbrev Begins : Bool → Type 0
@@ -97,7 +97,7 @@ module _ (place : PollPlace) (given : List Completion) (seen : ℕ) (rs : List R
 
     -- a look that shows the entry owned begins it
     pub look_begins : is_owned (ring_of place.cq) next (loaded e) ≡ true
-        → IsTaking (after_poll_side place (polls (Waiting acked next)) (OnHost (Look next)) e).host (after_poll_side place (polls (Waiting acked next)) (OnHost (Look next)) e).state × ((poll_side_turned place (polls (Waiting acked next)) (OnHost (Look next)) e).answer ≡ More)
+        → IsTaking (after_poll_side place (polls (Waiting acked next)) (OnHost (Look next)) e).host (after_poll_side place (polls (Waiting acked next)) (OnHost (Look next)) e).state × ((poll_side_step place (polls (Waiting acked next)) (OnHost (Look next)) e).answer ≡ More)
     look_begins owned = subst Begins (sym owned) (tt, refl)
 
   module _ (acked next index last : ℕ) (words : List ℕ) where
@@ -139,7 +139,7 @@ module _ (place : PollPlace) (given : List Completion) (c : Consumer) (seen : �
   up = record { host = c; seen = seen; retirers = rs; state = looks_up }
 
   abbrev UpOn : ℕ → WqMark → Type 0
-  UpOn index mark = Takes c (after_poll_side place up (OnQueue index mark) e).state (poll_side_turned place up (OnQueue index mark) e).answer
+  UpOn index mark = Takes c (after_poll_side place up (OnQueue index mark) e).state (poll_side_step place up (OnQueue index mark) e).answer
 
   abbrev FoundAs : Option WqEvent → Type 0
   FoundAs event = (views : List SendView) → Takes c (after_lookup place.cq.number views max (record { items = ends }) seen completion queue (retirer_step (is_found event))).state (after_lookup place.cq.number views max (record { items = ends }) seen completion queue (retirer_step (is_found event))).answer
@@ -168,7 +168,7 @@ module _ (place : PollPlace) (given : List Completion) (c : Consumer) (seen : �
 
 -- each operation of a poll that takes
 pub take_goes : (place : PollPlace) (given : List Completion) (c : Consumer) (seen : ℕ) (rs : List Retirer) (e : BusEntry) (state : PollState) (mark : PollMark) → IsUnderWay 1 given state → IsTaking c state → MayGoOn state place (record { host = c; seen = seen; retirers = rs; state = state }) mark e
-    → Takes (after_poll_side place (record { host = c; seen = seen; retirers = rs; state = state }) mark e).host (after_poll_side place (record { host = c; seen = seen; retirers = rs; state = state }) mark e).state (poll_side_turned place (record { host = c; seen = seen; retirers = rs; state = state }) mark e).answer
+    → Takes (after_poll_side place (record { host = c; seen = seen; retirers = rs; state = state }) mark e).host (after_poll_side place (record { host = c; seen = seen; retirers = rs; state = state }) mark e).state (poll_side_step place (record { host = c; seen = seen; retirers = rs; state = state }) mark e).answer
 take_goes place given c seen rs e Idle mark h takes may = absurd takes
 take_goes place given (Waiting acked next) seen rs e (Polling max ends) mark h takes may = absurd takes
 take_goes place given (Reading acked next index last words) seen rs e (Polling max ends) (OnHost mark) h takes may = next_word place given seen rs max ends.items h e acked next index last words mark may.next may.polls

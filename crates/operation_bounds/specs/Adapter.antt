@@ -1,7 +1,7 @@
 -- How many operations the adapter makes between taking a request and publishing its completion.
 use Rattle.std.specs.Prelude.{ℕ, ◌≡◌, ◌++◌, ◌≤◌, List, [], ◌∷◌, length, fold, Some}
 use Rattle.bus_core.specs.Mark.{Marked}
-use Rattle.verbs_model.specs.declared.declaration.Lines.{Lines}
+use Rattle.verbs_types.specs.declared.declaration.Lines.{Lines}
 use Rattle.cqe_format.specs.declared.completion.Cqe.{Cqe}
 use Rattle.object_places.specs.Objects.{Mark}
 use Rattle.device_engine.specs.State.{AdapterRule, fresh_adapter}

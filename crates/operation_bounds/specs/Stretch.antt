@@ -1,8 +1,8 @@
 -- Stretches of a thread's own operations, by how far its calls have come.
 use Rattle.std.specs.Prelude.{ℕ, ◌≡◌, ◌++◌, List, ◌∷◌, length, fold}
 use Rattle.bus_core.specs.Mark.{Marked}
-use Rattle.verbs_model.specs.declared.call.Call.{Call}
-use Rattle.verbs_model.specs.declared.declaration.Lines.{Lines}
+use Rattle.verbs_types.specs.declared.call.Call.{Call}
+use Rattle.verbs_types.specs.declared.declaration.Lines.{Lines}
 use Rattle.object_places.specs.Objects.{Mark}
 use Rattle.actor_rules.specs.Thread.{Thread, fresh_thread}
 use Rattle.actor_rules.specs.Calls.{after_thread}

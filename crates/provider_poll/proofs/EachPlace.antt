@@ -5,10 +5,10 @@ use Rattle.std.specs.List.{position_from}
 use Rattle.std.proofs.lemmas.Iterator.Adapters.{position_from-zero}
 use Rattle.std.proofs.lemmas.Simd.{map-map}
 use Rattle.std.proofs.Math.Seq.{get_or-append_seam}
-use Rattle.verbs_model.specs.declared.declaration.TheConstants.{FIRST_QP}
+use Rattle.verbs_types.specs.declared.declaration.TheConstants.{FIRST_QP}
 use Rattle.provider_poll.specs.SendQueue.{SendView, forgotten_queue}
 use Rattle.provider_poll.specs.SendQueues.{place_among, HasEachPlace}
-use Rattle.provider_poll.specs.Turned.{place_of_number}
+use Rattle.provider_poll.specs.PollStep.{place_of_number}
 use Rattle.provider_poll.proofs.Places.{stays}
 
 abbrev number_of : SendView → ℕ

@@ -6,7 +6,7 @@ use Rattle.arrayvec.specs.ArrayVec.{ArrayVec, array_vec_len}
 use Rattle.bus_core.specs.declared.operation.BusEntry.{BusEntry}
 use Rattle.bus_core.specs.declared.turn.Step.{Step}
 use Rattle.bus_core.specs.declared.turn.Step.TheVariants.{More, Gave, Done}
-use Rattle.verbs_model.specs.declared.completion.Completion.{Completion}
+use Rattle.verbs_types.specs.declared.completion.Completion.{Completion}
 use Rattle.owner_ring.specs.Consumer.{next_index}
 use Rattle.cqe_format.specs.declared.completion.Cqe.{Cqe}
 use Rattle.cq_pair.specs.declared.host.CqDone.{CqDone}
@@ -17,11 +17,11 @@ use Rattle.counted_ring.specs.declared.retirer.Retired.{Retired}
 use Rattle.counted_ring.specs.declared.retirer.Retired.TheVariants.{Found, Tail}
 use Rattle.provider_poll.specs.declared.state.End.{End}
 use Rattle.provider_poll.specs.declared.state.PollState.TheVariants.{Polling}
-use Rattle.provider_poll.specs.declared.turned.Turned.{Turned}
+use Rattle.provider_poll.specs.declared.poll_step.PollStep.{PollStep}
 use Rattle.provider_poll.specs.Completion.{is_of_request, completion_of}
 use Rattle.provider_poll.specs.SendQueue.{SendView}
 use Rattle.provider_poll.specs.Stores.{may_store, from_ready, storing, storing_first}
-use Rattle.provider_poll.specs.Turned.{place_of, place_of_number, with_end, with_none, with_completion, after_look, after_lookup}
+use Rattle.provider_poll.specs.PollStep.{place_of, place_of_number, with_end, with_none, with_completion, after_look, after_lookup}
 use Rattle.provider_poll.specs.Turns.{LooksUp, Retires, InQueue, working, IsPollingHost}
 use Rattle.provider_poll.specs.PollInside.{IsAtWork, IsLookingUp}
 use Rattle.provider_poll.proofs.Hosts.{Fits, top_after}
@@ -51,7 +51,7 @@ module _ (h : HostView) (queues : List SendView) where
     first rest true ready = record { task = idle; some = omega arith; ready = ready }
     first rest false ready = rest
 
-  either : (b : Bool) (s t : Turned) → (b ≡ true → IsAtWork h queues s.state) → (b ≡ false → IsAtWork h queues t.state) → IsAtWork h queues (if b then s else t).state
+  either : (b : Bool) (s t : PollStep) → (b ≡ true → IsAtWork h queues s.state) → (b ≡ false → IsAtWork h queues t.state) → IsAtWork h queues (if b then s else t).state
   either true s t first second = first refl
   either false s t first second = second refl
 
@@ -100,13 +100,13 @@ within old new queue before after t = subst (λ (qs : List SendView). queue < le
   cut (q ∷ qs) (suc i) found = let inside = cut qs i found in omega (arith, inside)
 
 -- after an operation on the words of a send queue
-module _ (h : HostView) (old new : List SendView) (e : BusEntry) (turned : Turned) where
+module _ (h : HostView) (old new : List SendView) (e : BusEntry) (turned : PollStep) where
   pub looked_up : (number seen max : ℕ) (ends : ArrayVec End) (c : Cqe) (queue : ℕ) (before : List SendView) → LooksUp number seen old new max ends c queue e turned → IsLookingUp h before max ends queue → IsAtWork h new turned.state
-  looked_up number seen max ends c queue before t work = subst (λ (t : Turned). IsAtWork h new t.state) (sym t.turned_is)
+  looked_up number seen max ends c queue before t work = subst (λ (t : PollStep). IsAtWork h new t.state) (sym t.turned_is)
       (asks h new number max seen ends work.few work.more c queue t.step work.task work.next (within old new queue t.before t.after t.within))
 
   pub retired : (taken : ℕ) (empty : Option ℕ) (first : End) (left : List End) → Retires old new taken empty first left e turned → h.task ≡ None → IsAtWork h new turned.state
-  retired taken empty first left t idle = subst (λ (t : Turned). IsAtWork h new t.state) (sym t.turned_is) (stores h new taken empty left idle)
+  retired taken empty first left t idle = subst (λ (t : PollStep). IsAtWork h new t.state) (sym t.turned_is) (stores h new taken empty left idle)
 
 -- an acknowledgement ends with its operation
 pub stored : (old new : HostView) (e : BusEntry) (step : Step (Unit {0}) CqDone) → HostTurn (working Acknowledgement old) new e step → new.task ≡ None

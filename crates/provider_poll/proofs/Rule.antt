@@ -7,7 +7,7 @@ use Rattle.bus_core.specs.declared.turn.Note.{Note}
 use Rattle.bus_core.specs.declared.turn.Step.{Step}
 use Rattle.bus_core.specs.declared.turn.Step.TheVariants.{More, Gave, Done}
 use Rattle.bus_core.specs.Operation.{loaded}
-use Rattle.verbs_model.specs.declared.completion.Completion.{Completion}
+use Rattle.verbs_types.specs.declared.completion.Completion.{Completion}
 use Rattle.cqe_format.specs.declared.completion.Cqe.{Cqe}
 use Rattle.owner_ring.specs.Consumer.{Consumer, Waiting, Reading, next_index}
 use Rattle.owner_ring.specs.ConsumerView.{seen_after}
@@ -28,13 +28,13 @@ use Rattle.provider_poll.specs.declared.answer.PollAnswer.{PollAnswer}
 use Rattle.provider_poll.specs.declared.state.End.{End}
 use Rattle.provider_poll.specs.declared.state.PollState.{PollState}
 use Rattle.provider_poll.specs.declared.state.PollState.TheVariants.{Idle, Polling, LookingUp, Retiring, Acking}
-use Rattle.provider_poll.specs.declared.turned.Turned.{Turned}
+use Rattle.provider_poll.specs.declared.poll_step.PollStep.{PollStep}
 use Rattle.provider_poll.specs.SendQueue.{SendView, retirer_of}
-use Rattle.provider_poll.specs.Turned.{after_look, after_lookup, after_retire, after_ack}
+use Rattle.provider_poll.specs.PollStep.{after_look, after_lookup, after_retire, after_ack}
 use Rattle.provider_poll.specs.Turns.{InQueue, acked_index}
 use Rattle.provider_poll.specs.Poll.{PollView, PollTurn}
 use Rattle.provider_poll.specs.Rule.{QueuePlace, PollPlace, PollRule, OnHost, OnQueue, MayPollSide, IsNextOf, MayServeIn, queues_at, queues_of, lookup_in}
-use Rattle.provider_poll.specs.RuleTurned.{host_step, retirer_step, retirers_with, retirers_by, asked_with, poll_side_turned, seen_by}
+use Rattle.provider_poll.specs.RuleStep.{host_step, retirer_step, retirers_with, retirers_by, asked_with, poll_side_step, seen_by}
 use Rattle.provider_poll.specs.FollowsRule.{FollowsRule, TurnsFollow, queue_place, place_of, rule_of}
 use Rattle.provider_poll.proofs.Places.{stays}
 use Rattle.provider_poll.proofs.Retirers.{Serves, looks_up, retires}
@@ -112,16 +112,16 @@ module _ (h : HostView) (qs qs' : List SendView) (state : PollState) (i : ℕ) (
   abbrev may_serve : MayServeIn at_place rule i mark e
   may_serve = record { served = before; found = found; serves = serves.may }
 
-  on_queue : (h' : HostView) (state' : PollState) (noted noted' : Option Note) (answer : Step Completion PollAnswer) (turned : Turned) → h' ≡ h → MayPollSide at_place rule (OnQueue i mark) e → turned ≡ poll_side_turned at_place rule (OnQueue i mark) e
+  on_queue : (h' : HostView) (state' : PollState) (noted noted' : Option Note) (answer : Step Completion PollAnswer) (turned : PollStep) → h' ≡ h → MayPollSide at_place rule (OnQueue i mark) e → turned ≡ poll_side_step at_place rule (OnQueue i mark) e
       → state' ≡ turned.state → answer ≡ turned.answer → noted' ≡ turned.noted → FollowsRule (view h qs state noted) (view h' qs' state' noted') e answer
   on_queue h' state' noted noted' answer turned host may is state_is answer_is noted_is =
-      let state_by : state' ≡ (poll_side_turned at_place rule (OnQueue i mark) e).state = state_is ∙ ap (λ (t : Turned). t.state) is in
+      let state_by : state' ≡ (poll_side_step at_place rule (OnQueue i mark) e).state = state_is ∙ ap (λ (t : PollStep). t.state) is in
       record {
         mark = OnQueue i mark;
         may = may;
         rule = λ j. record { host = (host j).side; seen = (host j).seen; retirers = retirers j; state = state_by j };
-        answer_is = answer_is ∙ ap (λ (t : Turned). t.answer) is;
-        noted = noted_is ∙ ap (λ (t : Turned). t.noted) is;
+        answer_is = answer_is ∙ ap (λ (t : PollStep). t.answer) is;
+        noted = noted_is ∙ ap (λ (t : PollStep). t.noted) is;
         place = λ j. record { cq = (host j).place; queues = places j };
       }
 
@@ -133,16 +133,16 @@ module _ (h : HostView) (qs : List SendView) (state : PollState) (mark : QueueMa
   host_rule = record { host = h.side; seen = h.seen; retirers = map side_of qs; state = state }
 
   -- an operation on the words of the completion queue
-  on_host : (h' : HostView) (qs' : List SendView) (state' : PollState) (noted noted' : Option Note) (answer : Step Completion PollAnswer) (turned : Turned) → h'.side ≡ after_poll h.place h.side mark e → h'.seen ≡ seen_by host_at host_rule mark e → h'.place ≡ h.place → qs' ≡ qs
-      → MayPollSide host_at host_rule (OnHost mark) e → turned ≡ poll_side_turned host_at host_rule (OnHost mark) e → state' ≡ turned.state → answer ≡ turned.answer → noted' ≡ turned.noted → FollowsRule (view h qs state noted) (view h' qs' state' noted') e answer
+  on_host : (h' : HostView) (qs' : List SendView) (state' : PollState) (noted noted' : Option Note) (answer : Step Completion PollAnswer) (turned : PollStep) → h'.side ≡ after_poll h.place h.side mark e → h'.seen ≡ seen_by host_at host_rule mark e → h'.place ≡ h.place → qs' ≡ qs
+      → MayPollSide host_at host_rule (OnHost mark) e → turned ≡ poll_side_step host_at host_rule (OnHost mark) e → state' ≡ turned.state → answer ≡ turned.answer → noted' ≡ turned.noted → FollowsRule (view h qs state noted) (view h' qs' state' noted') e answer
   on_host h' qs' state' noted noted' answer turned side seen place queues may is state_is answer_is noted_is =
-      let state_by : state' ≡ (poll_side_turned host_at host_rule (OnHost mark) e).state = state_is ∙ ap (λ (t : Turned). t.state) is in
+      let state_by : state' ≡ (poll_side_step host_at host_rule (OnHost mark) e).state = state_is ∙ ap (λ (t : PollStep). t.state) is in
       record {
         mark = OnHost mark;
         may = may;
         rule = λ j. record { host = side j; seen = seen j; retirers = map side_of (queues j); state = state_by j };
-        answer_is = answer_is ∙ ap (λ (t : Turned). t.answer) is;
-        noted = noted_is ∙ ap (λ (t : Turned). t.noted) is;
+        answer_is = answer_is ∙ ap (λ (t : PollStep). t.answer) is;
+        noted = noted_is ∙ ap (λ (t : PollStep). t.noted) is;
         place = λ j. record { cq = place j; queues = map queue_place (queues j) };
       }
 

@@ -1,6 +1,6 @@
 -- Operations of a poll as turns of its side.
 use Rattle.bus_core.specs.declared.turn.Step.{Step}
-use Rattle.verbs_model.specs.declared.completion.Completion.{Completion}
+use Rattle.verbs_types.specs.declared.completion.Completion.{Completion}
 use Rattle.owner_ring.specs.Place.{size}
 use Rattle.cq_pair.specs.declared.place.CqPlace.{CqPlace}
 use Rattle.cq_pair.specs.Place.{ring_of}
@@ -17,7 +17,7 @@ use Rattle.counted_ring.specs.Retirer.{Asked}
 use Rattle.provider_poll.specs.declared.state.End.{End}
 use Rattle.provider_poll.specs.declared.state.PollState.{PollState}
 use Rattle.provider_poll.specs.declared.state.PollState.TheVariants.{Polling, LookingUp, Retiring, Acking}
-use Rattle.provider_poll.specs.declared.turned.Turned.{Turned}
+use Rattle.provider_poll.specs.declared.poll_step.PollStep.{PollStep}
 use Rattle.provider_poll.specs.SendQueue.{SendView, asking, asking_with}
 use Rattle.provider_poll.specs.Turns.{Looks, LooksUp, Retires, Acknowledges, InQueue, places}
 use Rattle.provider_poll.specs.Poll.{PollView, PollTurn, LiesWithin}
@@ -40,7 +40,7 @@ stays_within words old new e answer t lies = record {
   queues = subst (λ (ps : List WqPlace). All (IsWithin words) ps) (sym t.places) lies.queues;
 }
 
-module _ (noted : Option Note) (e : BusEntry) (turned : Turned) where
+module _ (noted : Option Note) (e : BusEntry) (turned : PollStep) where
   abbrev pub side : HostView → List SendView → PollState → Option Note → PollView
   side h queues state noted = record { host = h; queues = queues; state = state; noted = noted }
 

@@ -1,9 +1,9 @@
 -- The completion of a request, as a thread is given it.
 use Rattle.std.specs.Prelude.{ℕ, ◌==◌, ◌||◌, Bool, Option, Some, None, if◌then◌else◌}
-use Rattle.verbs_model.specs.declared.completion.Completion.{Completion}
-use Rattle.verbs_model.specs.declared.completion.Kind.{Kind}
-use Rattle.verbs_model.specs.declared.completion.Kind.TheVariants.{Nop, Send, Write, Read, Cas, Faa, Failed}
-use Rattle.verbs_model.specs.declared.completion.Queue.TheVariants as queues
+use Rattle.verbs_types.specs.declared.completion.Completion.{Completion}
+use Rattle.verbs_types.specs.declared.completion.Kind.{Kind}
+use Rattle.verbs_types.specs.declared.completion.Kind.TheVariants.{Nop, Send, Write, Read, Cas, Faa, Failed}
+use Rattle.verbs_types.specs.declared.completion.Queue.TheVariants as queues
 use Rattle.cqe_format.specs.declared.completion.Cqe.{Cqe}
 use Rattle.cqe_format.specs.declared.opcode.TheConstants.{REQUEST, REQUEST_ERROR}
 use Rattle.cqe_format.specs.declared.syndrome.Syndrome.{Syndrome}

@@ -2,12 +2,12 @@
 use Rattle.std.specs.Prelude.{◌≡◌, map}
 use Rattle.bus_core.specs.declared.operation.BusEntry.{BusEntry}
 use Rattle.bus_core.specs.declared.turn.Step.{Step}
-use Rattle.verbs_model.specs.declared.completion.Completion.{Completion}
+use Rattle.verbs_types.specs.declared.completion.Completion.{Completion}
 use Rattle.provider_poll.specs.declared.answer.PollAnswer.{PollAnswer}
 use Rattle.provider_poll.specs.SendQueue.{SendView}
 use Rattle.provider_poll.specs.Poll.{PollView, PollTurn}
 use Rattle.provider_poll.specs.Rule.{QueuePlace, PollPlace, PollRule, PollMark, MayPollSide}
-use Rattle.provider_poll.specs.RuleTurned.{after_poll_side, poll_side_turned}
+use Rattle.provider_poll.specs.RuleStep.{after_poll_side, poll_side_step}
 
 abbrev pub queue_place : SendView → QueuePlace
 queue_place q = record { number = q.number; place = q.place }
@@ -23,8 +23,8 @@ pub record FollowsRule (old new : PollView) (e : BusEntry) (answer : Step Comple
   pub mark : PollMark
   pub may : MayPollSide (place_of old) (rule_of old) mark e
   pub rule : rule_of new ≡ after_poll_side (place_of old) (rule_of old) mark e
-  pub answer_is : answer ≡ (poll_side_turned (place_of old) (rule_of old) mark e).answer
-  pub noted : new.noted ≡ (poll_side_turned (place_of old) (rule_of old) mark e).noted
+  pub answer_is : answer ≡ (poll_side_step (place_of old) (rule_of old) mark e).answer
+  pub noted : new.noted ≡ (poll_side_step (place_of old) (rule_of old) mark e).noted
   pub place : place_of new ≡ place_of old
 
 -- each turn of the machine is an operation of the rule

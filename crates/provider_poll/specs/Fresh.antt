@@ -1,9 +1,9 @@
 -- The side that polls a declared completion queue, at first.
 use Rattle.std.specs.Prelude.{ℕ, ◌≡◌, ◌==◌, IsTrue, Bool, List, map, filter, length, Option, Some, None, if◌then◌else◌}
 use Rattle.std.specs.List.{range_with_len}
-use Rattle.verbs_model.specs.declared.declaration.Lines.{Lines}
-use Rattle.verbs_model.specs.declared.declaration.TheConstants.{FIRST_QP}
-use Rattle.verbs_model.specs.Lines.{is_declared, is_among}
+use Rattle.verbs_types.specs.declared.declaration.Lines.{Lines}
+use Rattle.verbs_types.specs.declared.declaration.TheConstants.{FIRST_QP}
+use Rattle.verbs_types.specs.Lines.{is_declared, is_among}
 use Rattle.actor_map.specs.Sizes.{words_of}
 use Rattle.owner_ring.specs.Consumer.{Waiting}
 use Rattle.object_places.specs.Places.{cq_line, qp_line, completions_of, send_of}

@@ -6,11 +6,11 @@ pub mod SendInside
 pub mod SendQueues
 pub mod SendQueuesInside
 pub mod Stores
-pub mod Turned
+pub mod PollStep
 pub mod Turns
 pub mod Poll
 pub mod PollInside
 pub mod Rule
-pub mod RuleTurned
+pub mod RuleStep
 pub mod FollowsRule
 pub mod Fresh

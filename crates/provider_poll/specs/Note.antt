@@ -1,8 +1,8 @@
 -- The notes of a poll, as those of its entries are.
 use Rattle.std.specs.Prelude.{ℕ}
 use Rattle.bus_core.specs.declared.turn.Note.{Note}
-use Rattle.verbs_model.specs.declared.completion.Queue.TheVariants.{Send}
-use Rattle.verbs_model.specs.declared.entry.What.TheVariants.{Retire, Ack}
+use Rattle.verbs_types.specs.declared.completion.Queue.TheVariants.{Send}
+use Rattle.verbs_types.specs.declared.entry.What.TheVariants.{Retire, Ack}
 use Rattle.actor_map.specs.Notes.{note_of}
 use Rattle.actor_map.specs.declared.note.TheConstants.{POLL}
 

@@ -1,7 +1,7 @@
 -- The note of a poll's last load is that of the poll's entry.
 use Rattle.std.specs.Prelude.{ℕ, ◌≡◌, List, length}
-use Rattle.verbs_model.specs.declared.completion.Completion.{Completion}
-use Rattle.verbs_model.specs.declared.entry.What.TheVariants.{Poll}
+use Rattle.verbs_types.specs.declared.completion.Completion.{Completion}
+use Rattle.verbs_types.specs.declared.entry.What.TheVariants.{Poll}
 use Rattle.actor_map.specs.Notes.{note_of}
 use Rattle.provider_poll.specs.Note.{poll_note}
 

@@ -4,7 +4,7 @@ use Rattle.bus_core.specs.declared.operation.BusEntry.{BusEntry}
 use Rattle.bus_core.specs.declared.turn.Note.{Note}
 use Rattle.bus_core.specs.declared.turn.Step.{Step}
 use Rattle.bus_core.specs.Port.{Port, HasRoom}
-use Rattle.verbs_model.specs.declared.completion.Completion.{Completion}
+use Rattle.verbs_types.specs.declared.completion.Completion.{Completion}
 use Rattle.owner_ring.specs.Consumer.{Waiting}
 use Rattle.owner_ring.specs.Place.{size}
 use Rattle.cq_pair.specs.declared.place.CqPlace.{CqPlace}
@@ -16,7 +16,7 @@ use Rattle.provider_poll.specs.declared.answer.PollAnswer.{PollAnswer}
 use Rattle.provider_poll.specs.declared.state.End.{End}
 use Rattle.provider_poll.specs.declared.state.PollState.{PollState}
 use Rattle.provider_poll.specs.declared.state.PollState.TheVariants.{Idle, Polling, LookingUp, Retiring, Acking}
-use Rattle.provider_poll.specs.declared.turned.Turned.{Turned}
+use Rattle.provider_poll.specs.declared.poll_step.PollStep.{PollStep}
 use Rattle.provider_poll.specs.SendQueue.{SendView, forgotten_queue}
 use Rattle.provider_poll.specs.Turns.{Looks, LooksUp, Retires, Acknowledges, places}
 
@@ -66,12 +66,12 @@ pub record CanPoll {Bus : Type 0} (v : PollView) (port : Port Bus) : Type 0 wher
   pub words : LiesWithin port.words v
 
 -- the first of the ends that are left is stored
-abbrev pub RetiresFirst : List SendView → List SendView → ℕ → Option ℕ → List End → BusEntry → Turned → Type 0
+abbrev pub RetiresFirst : List SendView → List SendView → ℕ → Option ℕ → List End → BusEntry → PollStep → Type 0
 RetiresFirst old new taken empty [] e turned = ⊥
 RetiresFirst old new taken empty (first ∷ left) e turned = Retires old new taken empty first left e turned
 
 -- what a turn does, by how far the poll has come
-abbrev pub Turns : PollState → PollView → PollView → BusEntry → Turned → Type 0
+abbrev pub Turns : PollState → PollView → PollView → BusEntry → PollStep → Type 0
 Turns Idle old new e turned = ⊥
 Turns (Polling max ends) old new e turned = Looks old.host.place.number old.host new.host old.queues max ends e turned × (new.queues ≡ old.queues)
 Turns (LookingUp max ends c queue) old new e turned = LooksUp old.host.place.number old.host.seen old.queues new.queues max ends c queue e turned × (new.host ≡ old.host)
@@ -80,7 +80,7 @@ Turns (Acking taken empty) old new e turned = Acknowledges old.host.place.number
 
 -- one operation, which keeps the rule of the host, or of the poller of one of the queues
 pub record PollTurn (old new : PollView) (e : BusEntry) (answer : Step Completion PollAnswer) : Type 0 where
-  pub turned : Turned
+  pub turned : PollStep
   pub turns : Turns old.state old new e turned
   pub state : new.state ≡ turned.state
   pub answer_is : answer ≡ turned.answer

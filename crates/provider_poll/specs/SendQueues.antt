@@ -1,8 +1,8 @@
 -- Where the queue of each queue pair stands among those of a poll.
 use Rattle.std.specs.Prelude.{ℕ, ◌≡◌, ◌-◌, nat_lt, if◌then◌else◌, List, get_or, Option, None}
-use Rattle.verbs_model.specs.declared.declaration.TheConstants.{FIRST_QP}
+use Rattle.verbs_types.specs.declared.declaration.TheConstants.{FIRST_QP}
 use Rattle.provider_poll.specs.SendQueue.{SendView}
-use Rattle.provider_poll.specs.Turned.{place_of_number}
+use Rattle.provider_poll.specs.PollStep.{place_of_number}
 
 -- the place that these have for a queue pair
 abbrev pub place_among : List (Option ℕ) → ℕ → Option ℕ

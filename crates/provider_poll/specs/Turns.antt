@@ -14,9 +14,9 @@ use Rattle.counted_ring.specs.declared.retirer.Retired.{Retired}
 use Rattle.counted_ring.specs.RetirerView.{RetirerView}
 use Rattle.object_places.specs.Places.{IsWithin}
 use Rattle.provider_poll.specs.declared.state.End.{End}
-use Rattle.provider_poll.specs.declared.turned.Turned.{Turned}
+use Rattle.provider_poll.specs.declared.poll_step.PollStep.{PollStep}
 use Rattle.provider_poll.specs.SendQueue.{SendView, SendTurn, asking, retiring}
-use Rattle.provider_poll.specs.Turned.{after_look, after_lookup, after_retire, after_ack}
+use Rattle.provider_poll.specs.PollStep.{after_look, after_lookup, after_retire, after_ack}
 
 -- where send queues lie
 abbrev pub places : List SendView → List WqPlace
@@ -38,7 +38,7 @@ abbrev pub working : HostTask → HostView → HostView
 working task h = record { place = h.place; side = h.side; task = Some task; seen = h.seen }
 
 -- the host looks at the next entry, or reads it
-pub record Looks (number : ℕ) (old new : HostView) (queues : List SendView) (max : ℕ) (ends : ArrayVec End) (e : BusEntry) (turned : Turned) : Type 0 where
+pub record Looks (number : ℕ) (old new : HostView) (queues : List SendView) (max : ℕ) (ends : ArrayVec End) (e : BusEntry) (turned : PollStep) : Type 0 where
   pub step : Step (Unit {0}) CqDone
   pub host_turn : HostTurn (working PollOne old) new e step
   pub turned_is : turned ≡ after_look number queues max ends new.seen step
@@ -62,7 +62,7 @@ pub record StoresOne (old new : List SendView) (end : End) (e : BusEntry) (pair 
   pub pair_is : pair ≡ turns.before.number
 
 -- the lookup of the completion goes on, in its queue
-pub record LooksUp (number seen : ℕ) (old new : List SendView) (max : ℕ) (ends : ArrayVec End) (c : Cqe) (queue : ℕ) (e : BusEntry) (turned : Turned) : Type 0 where
+pub record LooksUp (number seen : ℕ) (old new : List SendView) (max : ℕ) (ends : ArrayVec End) (c : Cqe) (queue : ℕ) (e : BusEntry) (turned : PollStep) : Type 0 where
   pub before : SendView
   pub after : SendView
   pub within : InQueue old new queue before after
@@ -71,7 +71,7 @@ pub record LooksUp (number seen : ℕ) (old new : List SendView) (max : ℕ) (en
   pub turned_is : turned ≡ after_lookup number new max ends seen c queue step
 
 -- the first end is stored, in its queue
-pub record Retires (old new : List SendView) (taken : ℕ) (empty : Option ℕ) (first : End) (left : List End) (e : BusEntry) (turned : Turned) : Type 0 where
+pub record Retires (old new : List SendView) (taken : ℕ) (empty : Option ℕ) (first : End) (left : List End) (e : BusEntry) (turned : PollStep) : Type 0 where
   pub before : SendView
   pub after : SendView
   pub within : InQueue old new first.queue before after
@@ -84,7 +84,7 @@ acked_index (Done (Acked ci)) = ci
 acked_index _ = 0
 
 -- the consumer index is stored
-pub record Acknowledges (number : ℕ) (old new : HostView) (taken : ℕ) (empty : Option ℕ) (e : BusEntry) (turned : Turned) : Type 0 where
+pub record Acknowledges (number : ℕ) (old new : HostView) (taken : ℕ) (empty : Option ℕ) (e : BusEntry) (turned : PollStep) : Type 0 where
   pub step : Step (Unit {0}) CqDone
   pub host_turn : HostTurn (working Acknowledgement old) new e step
   pub turned_is : turned ≡ after_ack number taken empty (acked_index step)

@@ -3,7 +3,7 @@ ghost use Rattle.std.specs.Prelude.{◌≡◌};
 ghost use Rattle.provider_poll.specs.Completion as words;
 
 use cqe_format::{Cqe, Syndrome, opcode};
-use verbs_model::{Completion, Kind, Queue};
+use verbs_types::{Completion, Kind, Queue};
 
 /// Whether it reports a request of a send queue.
 pub(crate) fn is_of_request(c: &Cqe) -> bool

@@ -1,6 +1,6 @@
 //! What holds of sides that poll, and of their turns.
 ghost use Rattle.std.specs.Prelude.{ℕ};
-ghost use Rattle.verbs_model.specs.declared.declaration.Lines.{Lines};
+ghost use Rattle.verbs_types.specs.declared.declaration.Lines.{Lines};
 ghost use Rattle.provider_poll.specs.FollowsRule.{TurnsFollow};
 ghost use Rattle.provider_poll.specs.Fresh.{BeginsAs, LieWithin};
 ghost use Rattle.provider_poll.specs.NotesFit.{NotesFit};

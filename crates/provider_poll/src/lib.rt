@@ -12,12 +12,12 @@ mod completion;
 pub mod laws;
 mod note;
 mod poll;
+mod poll_step;
 mod send_queue;
 mod send_queues;
 mod senders;
 mod state;
 mod stores;
-mod turned;
 mod turns;
 
 pub use answer::PollAnswer;

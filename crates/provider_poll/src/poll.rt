@@ -2,7 +2,7 @@
 ghost use Rattle.std.specs.Prelude.{◌≡◌, ◌<◌, ◌≤◌, ◌^◌, ◌↔◌, IsTrue, IfOk, length};
 ghost use Rattle.bus_core.specs.Port.{Appends};
 ghost use Rattle.bus_core.specs.declared.operation.BusEntry.{BusEntry};
-ghost use Rattle.verbs_model.specs.Lines.{is_among};
+ghost use Rattle.verbs_types.specs.Lines.{is_among};
 ghost use Rattle.actor_map.specs.Map.{map_of};
 ghost use Rattle.actor_map.specs.Sizes.{words_of};
 ghost use Rattle.owner_ring.specs.Consumer.{next_index};
@@ -24,7 +24,7 @@ use object_places::completion_place;
 use std::alloc::Global;
 use std::marker::Model;
 use std::mem;
-use verbs_model::{Completion, Declared, NoMemory};
+use verbs_types::{Completion, Declared, NoMemory};
 
 /// Polls a completion queue, one bus operation a turn. For each completion it loads the last word of the
 /// next entry, and where software owns it words 0 to 6; then it looks the request up, by a load of the id

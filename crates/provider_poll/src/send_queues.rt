@@ -6,7 +6,7 @@ ghost use Rattle.provider_poll.specs.SendQueue.{forgotten_queue, asking, retirin
 ghost use Rattle.provider_poll.specs.SendQueues.{HasEachPlace};
 ghost use Rattle.provider_poll.specs.SendQueues as each_place;
 ghost use Rattle.provider_poll.specs.Stores as stores;
-ghost use Rattle.provider_poll.specs.Turned as words;
+ghost use Rattle.provider_poll.specs.PollStep as words;
 ghost use Rattle.provider_poll.specs.Turns.{CanServeEach, TurnsOne, StoresOne};
 
 use crate::send_queue::SendQueue;
@@ -14,7 +14,7 @@ use crate::state::End;
 use bus_core::{BusPort, Step};
 use counted_ring::Retired;
 use std::marker::Model;
-use verbs_model::FIRST_QP;
+use verbs_types::FIRST_QP;
 
 /// The send queues that complete to one completion queue, in the order of their queue pairs' numbers. That
 /// of a queue pair is found without a search.

@@ -1,7 +1,7 @@
 //! The send queues that complete to a declared completion queue.
 ghost use Rattle.std.specs.Prelude.{◌≡◌, ◌<◌, ◌≤◌, ◌++◌, ◌∷◌, [], ◌^◌, if◌then◌else◌, IsTrue, IfOk, OnOk, length};
-ghost use Rattle.verbs_model.specs.Lines.{is_among};
-ghost use Rattle.verbs_model.specs.declared.declaration.TheConstants.{FIRST_QP};
+ghost use Rattle.verbs_types.specs.Lines.{is_among};
+ghost use Rattle.verbs_types.specs.declared.declaration.TheConstants.{FIRST_QP};
 ghost use Rattle.actor_map.specs.Map.{map_of};
 ghost use Rattle.actor_map.specs.Sizes.{words_of};
 ghost use Rattle.provider_poll.specs.Fresh as words;
@@ -11,7 +11,7 @@ use crate::send_queues::SendQueues;
 use actor_map::AddressMap;
 use object_places::send_place;
 use std::alloc::Global;
-use verbs_model::{Declared, FIRST_QP, NoMemory};
+use verbs_types::{Declared, FIRST_QP, NoMemory};
 
 /// The send queues that complete to the completion queue `object`, in the order of their queue pairs'
 /// numbers. Nothing of them was retired.

@@ -10,9 +10,9 @@ ghost use Rattle.provider_poll.specs.Stores.{may_store};
 ghost use Rattle.provider_poll.specs.Turns.{Looks, LooksUp, Retires, Acknowledges, IsPollingHost, CanServeEach, acked_index, working};
 ghost use Rattle.cq_pair.specs.HostView.{PollOne};
 
+use crate::poll_step::{PollStep, after_ack, after_look, after_lookup, after_retire};
 use crate::send_queues::SendQueues;
 use crate::state::{End, Ends};
-use crate::turned::{Turned, after_ack, after_look, after_lookup, after_retire};
 use bus_core::{BusPort, Step};
 use cq_pair::{CqDone, CqHost};
 use cqe_format::Cqe;
@@ -25,7 +25,7 @@ pub(crate) fn look<P: BusPort>(
     max: u32,
     ends: Ends,
     port: &mut P,
-) -> Turned
+) -> PollStep
     requires ends { array_vec_len ends < 16 }
     requires task { IsPollingHost host.old.task }
     requires index { next_index host.old.side < 2 ^ 62 }
@@ -59,7 +59,7 @@ pub(crate) fn look_up<P: BusPort>(
     completion: Cqe,
     queue: usize,
     port: &mut P,
-) -> Turned
+) -> PollStep
     requires ends { array_vec_len ends < 16 }
     requires inside { queue < length queues.old }
     requires port { CanServeEach queues.old (P.port port.old) }
@@ -77,7 +77,7 @@ pub(crate) fn retire<P: BusPort>(
     first: End,
     left: Ends,
     port: &mut P,
-) -> Turned
+) -> PollStep
     requires may { may_store queues.old first ≡ true }
     requires port { CanServeEach queues.old (P.port port.old) }
     ensures { (e : BusEntry) × Appends (P.port port.old) (P.port port.new) e × Retires queues.old queues.new taken empty first left.items e result }
@@ -93,7 +93,7 @@ pub(crate) fn acknowledge<P: BusPort>(
     taken: u32,
     empty: Option<u64>,
     port: &mut P,
-) -> Turned
+) -> PollStep
     requires idle { host.old.task ≡ None }
     requires port { CanServe (ring_of host.old.place) (P.port port.old) }
     ensures { (e : BusEntry) × Appends (P.port port.old) (P.port port.new) e × Acknowledges number host.old host.new taken empty e result }

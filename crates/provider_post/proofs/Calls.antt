@@ -3,7 +3,7 @@ use Rattle.std.proofs.Common.{◌≡◌, ◌≢◌, ℕ, ◌%◌, ◌^◌, ◌<�
 use Rattle.std.specs.Prelude.{bit_and, is_some}
 use Rattle.std.proofs.lemmas.Bool.{or_parts, eqb-false}
 use Rattle.std.proofs.lemmas.Nat.{and_mask}
-use Rattle.verbs_model.specs.declared.request.Request.{Request}
+use Rattle.verbs_types.specs.declared.request.Request.{Request}
 use Rattle.provider_post.specs.declared.call.Call.{Call}
 use Rattle.provider_post.specs.Call.{is_written}
 

@@ -12,7 +12,7 @@ use Rattle.work_entries.specs.declared.sent.SentBody.TheVariants.{Sges, Inline}
 use Rattle.work_entries.specs.declared.units.SendWords.{SendWords}
 use Rattle.prm_fields.specs.declared.layout.LayoutName.TheVariants.{DataUnit}
 use Rattle.prm_fields.specs.Spelling.{Spells}
-use Rattle.verbs_model.specs.declared.request.Sge.{Sge}
+use Rattle.verbs_types.specs.declared.request.Sge.{Sge}
 use Rattle.work_entries.specs.Body.{MayCarry, body_units, segment_values}
 use Rattle.work_entries.proofs.DataSegments.{segments_same}
 use Rattle.work_entries.specs.Opcode.{opcode_of, fixed_units, most_data}
@@ -21,11 +21,11 @@ use Rattle.work_entries.specs.Unit.{unit, word_bytes}
 use Rattle.counted_ring.specs.declared.place.WqPlace.{WqPlace}
 use Rattle.counted_ring.specs.Place.{is_send, span, unit_blocks, entry_words}
 use Rattle.counted_ring.specs.PosterView.{Posting}
-use Rattle.verbs_model.specs.declared.completion.Queue.TheVariants.{Send as OfSend, Recv as OfReceive}
-use Rattle.verbs_model.specs.declared.request.Request.{Request}
-use Rattle.verbs_model.specs.declared.request.Receive.{Receive}
-use Rattle.verbs_model.specs.declared.request.Item.{Item}
-use Rattle.verbs_model.specs.declared.request.Item.TheVariants.{Request as TheRequest, Receive as TheReceive}
+use Rattle.verbs_types.specs.declared.completion.Queue.TheVariants.{Send as OfSend, Recv as OfReceive}
+use Rattle.verbs_types.specs.declared.request.Request.{Request}
+use Rattle.verbs_types.specs.declared.request.Receive.{Receive}
+use Rattle.verbs_types.specs.declared.request.Item.{Item}
+use Rattle.verbs_types.specs.declared.request.Item.TheVariants.{Request as TheRequest, Receive as TheReceive}
 use Rattle.work_entries.specs.Receive.{IsReceive, AreClearFrom, end_of_list, room_of, used_units}
 use Rattle.provider_post.specs.Item.{IsReceiveEntry}
 use Rattle.provider_post.specs.Side.{IsNext}

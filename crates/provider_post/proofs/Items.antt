@@ -5,8 +5,8 @@ use Rattle.std.proofs.lemmas.List.{length-take-le, length-map}
 use Rattle.std.proofs.lemmas.Option.{slice_get-map, slice_get_read}
 use Rattle.bus_core.specs.declared.operation.BusEntry.{BusEntry}
 use Rattle.bus_core.specs.declared.turn.Step.{Step}
-use Rattle.verbs_model.specs.declared.completion.Queue.{Queue}
-use Rattle.verbs_model.specs.declared.request.Item.{Item}
+use Rattle.verbs_types.specs.declared.completion.Queue.{Queue}
+use Rattle.verbs_types.specs.declared.request.Item.{Item}
 use Rattle.actor_map.specs.Notes as entries
 use Rattle.actor_map.specs.Notes.{queue_number}
 use Rattle.actor_map.specs.declared.note.TheConstants.{POST}
@@ -15,8 +15,8 @@ use Rattle.counted_ring.specs.Queue.{WqEvent, Wrote, Full, Rang, Named, Found, R
 use Rattle.counted_ring.specs.PosterView.{PosterView, PosterTask, Posting, Doorbell}
 use Rattle.provider_post.specs.declared.call.Call.{Call}
 use Rattle.provider_post.specs.declared.answer.PostAnswer.{PostAnswer}
-use Rattle.provider_post.specs.declared.told.Told.{Told}
-use Rattle.provider_post.specs.declared.told.Told.TheVariants as told
+use Rattle.provider_post.specs.declared.post_step.PostStep.{PostStep}
+use Rattle.provider_post.specs.declared.post_step.PostStep.TheVariants as told
 use Rattle.provider_post.specs.Call.{fresh_call, is_written, call_after, told_of}
 use Rattle.provider_post.specs.Item.{CanTake, IsNextItem, WritesItem}
 use Rattle.provider_post.specs.Note.{note_of}
@@ -37,13 +37,13 @@ written place queue index next task (Some (Counted ready passes)) h is = tt
 written place queue index next task (Some (Took words)) h is = tt
 
 -- the note is that of the entry
-noted : (queue : Queue) (items : List Item) (c : Call) (t : Told) (seen : ℕ) → c.accepted ≤ length items → note_of queue c t seen ≡ option_map (λ what. entries.note_of what seen) (entry_told queue items c t)
+noted : (queue : Queue) (items : List Item) (c : Call) (t : PostStep) (seen : ℕ) → c.accepted ≤ length items → note_of queue c t seen ≡ option_map (λ what. entries.note_of what seen) (entry_told queue items c t)
 noted queue items c told.Nothing seen few = refl
 noted queue items c told.Wrote seen few = refl
 noted queue items c (told.Full head tail) seen few = refl
 noted queue items c told.Rang seen few = ap (λ (n : ℕ). Some (record { kind = POST; object = queue_number queue; a = n; b = seen; c = 0; d = 0 })) (sym (length-take-le c.accepted items few))
 
-count_kept : (c : Call) (t : Told) → (call_after c t).count ≡ c.count
+count_kept : (c : Call) (t : PostStep) → (call_after c t).count ≡ c.count
 count_kept c told.Nothing = refl
 count_kept c told.Wrote = refl
 count_kept c (told.Full head tail) = refl

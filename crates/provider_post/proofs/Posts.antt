@@ -14,8 +14,8 @@ use Rattle.counted_ring.specs.PosterView.{PosterView, PosterTask, Posting, MayBr
 use Rattle.counted_ring.specs.Turn.{task_after}
 use Rattle.counted_ring.proofs.Parts.{span_few}
 use Rattle.provider_post.specs.declared.call.Call.{Call}
-use Rattle.provider_post.specs.declared.told.Told.{Told}
-use Rattle.provider_post.specs.declared.told.Told.TheVariants as told
+use Rattle.provider_post.specs.declared.post_step.PostStep.{PostStep}
+use Rattle.provider_post.specs.declared.post_step.PostStep.TheVariants as told
 use Rattle.provider_post.specs.Call.{is_written, mark_at, told_of, told_post, call_after, is_last, left_after}
 use Rattle.provider_post.specs.Side.{seen_with, IsAtRest}
 use Rattle.provider_post.specs.Queued.{WritesTask}
@@ -128,10 +128,10 @@ module _ (p p' : PosterView) (c : Call) (e : BusEntry) (k : IsAtCall p c) where
           writes = subst (λ (v : Option WqEvent). WritesTask p.task v) says tt;
           seen = seen;
           rung = rung;
-          work = subst (λ (t : Told). IsAtWork p' (left_after (is_send p.place) c (call_after c t))) (sym nothing) (goes_on p' (is_send p.place) c c more (same_call stays task is fits));
+          work = subst (λ (t : PostStep). IsAtWork p' (left_after (is_send p.place) c (call_after c t))) (sym nothing) (goes_on p' (is_send p.place) c c more (same_call stays task is fits));
           task = λ ws i same. kept ws i (sym is ∙ same);
           index = λ ws i same. ap (λ (s : Poster). s.index) stays;
-          call = λ ws i same. subst (λ (t : Told). left_after (is_send p.place) c (call_after c t) ≡ Some c) (sym nothing) (ap (λ (b : Bool). cond b None (Some c)) more);
+          call = λ ws i same. subst (λ (t : PostStep). left_after (is_send p.place) c (call_after c t) ≡ Some c) (sym nothing) (ap (λ (b : Bool). cond b None (Some c)) more);
         }
 
     -- no item is under way

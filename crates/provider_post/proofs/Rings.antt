@@ -13,8 +13,8 @@ use Rattle.counted_ring.specs.PosterView.{PosterView, PosterTask, Posting, Doorb
 use Rattle.counted_ring.specs.Rung.{rung_at}
 use Rattle.counted_ring.specs.Turn.{task_after}
 use Rattle.provider_post.specs.declared.call.Call.{Call}
-use Rattle.provider_post.specs.declared.told.Told.{Told}
-use Rattle.provider_post.specs.declared.told.Told.TheVariants as told
+use Rattle.provider_post.specs.declared.post_step.PostStep.{PostStep}
+use Rattle.provider_post.specs.declared.post_step.PostStep.TheVariants as told
 use Rattle.provider_post.specs.Call.{is_written, mark_at, told_of, told_at, call_after, is_last, left_after}
 use Rattle.provider_post.specs.Queued.{WritesTask}
 use Rattle.provider_post.specs.Side.{IsAtRest}
@@ -45,7 +45,7 @@ module _ (p p' : PosterView) (c : Call) (e : BusEntry) (k : IsAtCall p c) where
     done (Done a) stage ready is = refl
 
     -- what is told, with the rest of it
-    told_so : (answer : Step (Unit {0}) Posted) (t : Told) → told_at true c.recorded answer ≡ t → t ≡ told_of (brought p.place p.side (mark_at true) e) → WritesTask p.task (brought p.place p.side (mark_at true) e)
+    told_so : (answer : Step (Unit {0}) Posted) (t : PostStep) → told_at true c.recorded answer ≡ t → t ≡ told_of (brought p.place p.side (mark_at true) e) → WritesTask p.task (brought p.place p.side (mark_at true) e)
         → p'.task ≡ task_after (Some Doorbell) answer → IsAtWork p' (left_after (is_send p.place) c (call_after c t)) → Rings answer
     told_so answer t told_is event writes task work = record {
       may = may;
@@ -54,7 +54,7 @@ module _ (p p' : PosterView) (c : Call) (e : BusEntry) (k : IsAtCall p c) where
       writes = writes;
       seen = seen;
       rung = rung;
-      work = subst (λ (d : Told). IsAtWork p' (left_after (is_send p.place) c (call_after c d))) (sym told_is) work;
+      work = subst (λ (d : PostStep). IsAtWork p' (left_after (is_send p.place) c (call_after c d))) (sym told_is) work;
       task = λ ws i same. absurd (is_ring answer ws i task same);
       index = λ ws i same. absurd (is_ring answer ws i task same);
       call = λ ws i same. absurd (is_ring answer ws i task same);

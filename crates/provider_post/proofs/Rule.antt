@@ -4,10 +4,10 @@ use Rattle.std.specs.Prelude.{List, length, slice_get, slice_index, option_map}
 use Rattle.bus_core.specs.declared.operation.BusEntry.{BusEntry}
 use Rattle.bus_core.specs.declared.turn.Step.{Step}
 use Rattle.bus_core.specs.declared.turn.Step.TheVariants.{More, Done}
-use Rattle.verbs_model.specs.declared.request.Item.{Item}
-use Rattle.verbs_model.specs.declared.request.Item.TheVariants.{Request as TheRequest, Receive as TheReceive}
-use Rattle.verbs_model.specs.declared.request.Request.{Request}
-use Rattle.verbs_model.specs.declared.request.Receive.{Receive}
+use Rattle.verbs_types.specs.declared.request.Item.{Item}
+use Rattle.verbs_types.specs.declared.request.Item.TheVariants.{Request as TheRequest, Receive as TheReceive}
+use Rattle.verbs_types.specs.declared.request.Request.{Request}
+use Rattle.verbs_types.specs.declared.request.Receive.{Receive}
 use Rattle.std.specs.List.{AllByRecursion}
 use Rattle.counted_ring.specs.declared.place.WqPlace.{WqPlace}
 use Rattle.counted_ring.specs.Poster.{Poster, Stage, Ready, Storing, Naming, Counting, Ringing, at_stage, posted_one, after_post_at, after_ring_at, ring_says_at}

@@ -4,13 +4,13 @@ use Rattle.std.proofs.lemmas.Bool.{cases_Bool}
 use Rattle.bus_core.specs.declared.operation.BusEntry.{BusEntry}
 use Rattle.bus_core.specs.declared.turn.Note.{Note}
 use Rattle.bus_core.specs.declared.turn.Step.{Step}
-use Rattle.verbs_model.specs.declared.completion.Queue.{Queue}
+use Rattle.verbs_types.specs.declared.completion.Queue.{Queue}
 use Rattle.counted_ring.specs.declared.place.WqPlace.{WqPlace}
 use Rattle.counted_ring.specs.declared.poster.Posted.{Posted}
 use Rattle.counted_ring.specs.Place.{is_send, touches}
 use Rattle.counted_ring.specs.PosterView.{PosterView, PosterTurn, PosterTask, Posting, Doorbell, brought}
 use Rattle.provider_post.specs.declared.call.Call.{Call}
-use Rattle.provider_post.specs.declared.told.Told.{Told}
+use Rattle.provider_post.specs.declared.post_step.PostStep.{PostStep}
 use Rattle.provider_post.specs.Call.{is_written, mark_of, told_of, told_by, call_after, left_after, answer_with}
 use Rattle.provider_post.specs.Note.{note_of}
 use Rattle.provider_post.specs.Queued.{has_register, IsQueuePlace, next_in, QueueTurn, ring_task, IsRung}
@@ -33,19 +33,19 @@ module _ (p p' : PosterView) (c : Call) (e : BusEntry) (k : IsAtCall p c) where
   by_task answer (Some Doorbell) is fits begun t = subst (Made p p' c e answer) (sym fits) (ring p p' c e k fits t.may t.side t.seen t.rung answer t.task t.done)
 
 -- what the functions give that a turn calls
-pub record Gives (p' : PosterView) (queue : Queue) (c : Call) (answer : Step (Unit {0}) Posted) (told : Told) (next : Call) (left : Option Call) (noted : Option Note) : Type 0 where
+pub record Gives (p' : PosterView) (queue : Queue) (c : Call) (answer : Step (Unit {0}) Posted) (told : PostStep) (next : Call) (left : Option Call) (noted : Option Note) : Type 0 where
   pub told_is : told ≡ told_by c answer
   pub next_is : next ≡ call_after c told
   pub left_is : left ≡ left_after (has_register queue) c next
   pub noted_is : noted ≡ note_of queue c told p'.seen
 
 -- the turn, and the side after it
-pub record Turned (p p' : PosterView) (queue : Queue) (before : Option Note) (c next : Call) (e : BusEntry) (left : Option Call) (noted : Option Note) : Type 0 where
+pub record PollStep (p p' : PosterView) (queue : Queue) (before : Option Note) (c next : Call) (e : BusEntry) (left : Option Call) (noted : Option Note) : Type 0 where
   pub turn : QueueTurn (record { poster = p; queue = queue; call = Some c; noted = before }) (record { poster = p'; queue = queue; call = left; noted = noted }) e (answer_with left next)
   pub side : IsSide p' queue left
 
-pub turned : (p p1 p' : PosterView) (queue : Queue) (before : Option Note) (c : Call) (e : BusEntry) (answer : Step (Unit {0}) Posted) (told : Told) (next : Call) (left : Option Call) (noted : Option Note)
-    → IsSide p queue (Some c) → next_in p.task (Some c) ≡ None → IsRung p p1 → PosterTurn p1 p' e answer → Gives p' queue c answer told next left noted → Turned p p' queue before c next e left noted
+pub turned : (p p1 p' : PosterView) (queue : Queue) (before : Option Note) (c : Call) (e : BusEntry) (answer : Step (Unit {0}) Posted) (told : PostStep) (next : Call) (left : Option Call) (noted : Option Note)
+    → IsSide p queue (Some c) → next_in p.task (Some c) ≡ None → IsRung p p1 → PosterTurn p1 p' e answer → Gives p' queue c answer told next left noted → PollStep p p' queue before c next e left noted
 turned p p1 p' queue before c e answer told next left noted s begun rings t g =
     let place_is : p'.place ≡ p.place = t.place ∙ ap (λ (q : PosterView). q.place) rings in
     let inside : touches p.place e.addr ≡ true = subst (λ (pl : WqPlace). touches pl e.addr ≡ true) (ap (λ (q : PosterView). q.place) rings) t.inside in
@@ -55,7 +55,7 @@ turned p p1 p' queue before c e answer told next left noted s begun rings t g =
     let left_is : left ≡ left_after (is_send p.place) c (call_after c (told_by c answer)) = g.left_is ∙ (ap (λ (b : Bool). left_after b c next) register ∙ ap (left_after (is_send p.place) c) next_is) in
     let event = told_of (brought p.place p.side (mark_of c) e) in
     let next_by : next ≡ call_after c event = next_is ∙ ap (call_after c) m.told_is in
-    let left_by : left ≡ left_after (is_send p.place) c (call_after c event) = left_is ∙ ap (λ (d : Told). left_after (is_send p.place) c (call_after c d)) m.told_is in
+    let left_by : left ≡ left_after (is_send p.place) c (call_after c event) = left_is ∙ ap (λ (d : PostStep). left_after (is_send p.place) c (call_after c d)) m.told_is in
     let work : IsAtWork p' left = subst (λ (o : Option Call). IsAtWork p' o) (sym left_is) m.work in
     record {
       turn = record {
@@ -65,7 +65,7 @@ turned p p1 p' queue before c e answer told next left noted s begun rings t g =
         writes = m.writes;
         call = left_by;
         answer_is = ap (λ (o : Option Call). answer_with o next) left_by ∙ ap (λ (n : Call). answer_with (left_after (is_send p.place) c (call_after c event)) n) next_by;
-        noted = g.noted_is ∙ ap (λ (d : Told). note_of queue c d p'.seen) (g.told_is ∙ m.told_is);
+        noted = g.noted_is ∙ ap (λ (d : PostStep). note_of queue c d p'.seen) (g.told_is ∙ m.told_is);
         seen = m.seen;
         rung = m.rung;
         rest = λ none. at_rest p' left work none;

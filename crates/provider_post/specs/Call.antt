@@ -8,8 +8,8 @@ use Rattle.counted_ring.specs.Mark.{WqMark, Post, Ring}
 use Rattle.counted_ring.specs.Queue as queue
 use Rattle.counted_ring.specs.Queue.{WqEvent}
 use Rattle.provider_post.specs.declared.call.Call.{Call}
-use Rattle.provider_post.specs.declared.told.Told.{Told}
-use Rattle.provider_post.specs.declared.told.Told.TheVariants.{Nothing, Wrote, Full, Rang}
+use Rattle.provider_post.specs.declared.post_step.PostStep.{PostStep}
+use Rattle.provider_post.specs.declared.post_step.PostStep.TheVariants.{Nothing, Wrote, Full, Rang}
 use Rattle.provider_post.specs.declared.answer.Room.{Room}
 use Rattle.provider_post.specs.declared.answer.Room.TheVariants as room
 use Rattle.provider_post.specs.declared.answer.PostAnswer.{PostAnswer}
@@ -36,7 +36,7 @@ abbrev pub mark_of : Call → WqMark
 mark_of c = mark_at (is_written c)
 
 -- what an operation tells, by the event that it is
-abbrev pub told_of : Option WqEvent → Told
+abbrev pub told_of : Option WqEvent → PostStep
 told_of None = Nothing
 told_of (Some (queue.Wrote words id)) = Wrote
 told_of (Some (queue.Full head tail)) = Full head tail
@@ -44,7 +44,7 @@ told_of (Some queue.Rang) = Rang
 told_of (Some _) = Nothing
 
 -- the same by the poster's answer
-abbrev pub told_post : Step (Unit {0}) Posted → Told
+abbrev pub told_post : Step (Unit {0}) Posted → PostStep
 told_post More = Nothing
 told_post (Gave part) = Nothing
 told_post (Done posted.Wrote) = Wrote
@@ -52,16 +52,16 @@ told_post (Done posted.Rung) = Nothing
 told_post (Done (posted.Full head tail)) = Full head tail
 
 -- where all is written, the first operation stores the record
-abbrev pub told_at : (is_written is_recorded : Bool) → Step (Unit {0}) Posted → Told
+abbrev pub told_at : (is_written is_recorded : Bool) → Step (Unit {0}) Posted → PostStep
 told_at false is_recorded answer = told_post answer
 told_at true false answer = Rang
 told_at true true answer = Nothing
 
-abbrev pub told_by : Call → Step (Unit {0}) Posted → Told
+abbrev pub told_by : Call → Step (Unit {0}) Posted → PostStep
 told_by c answer = told_at (is_written c) c.recorded answer
 
 -- the call after it
-abbrev pub call_after : Call → Told → Call
+abbrev pub call_after : Call → PostStep → Call
 call_after c Nothing = c
 call_after c Wrote = record { count = c.count; accepted = c.accepted + 1; refused = c.refused; recorded = c.recorded }
 call_after c (Full head tail) = record { count = c.count; accepted = c.accepted; refused = Some (room.Full head tail); recorded = c.recorded }

@@ -1,7 +1,7 @@
 -- How the fields of a side are seen.
 use Rattle.std.specs.Prelude.{ℕ, ◌≡◌, ◌+◌, ◌*◌, ◌^◌, ◌<◌, ◌≤◌, true, false, Option, Some, None}
-use Rattle.verbs_model.specs.declared.completion.Queue.{Queue}
-use Rattle.verbs_model.specs.declared.completion.Queue.TheVariants.{Send, Recv}
+use Rattle.verbs_types.specs.declared.completion.Queue.{Queue}
+use Rattle.verbs_types.specs.declared.completion.Queue.TheVariants.{Send, Recv}
 use Rattle.counted_ring.specs.Place.{is_send}
 use Rattle.counted_ring.specs.Poster.{Poster, Stage, Ready, Ringing, at_stage}
 use Rattle.counted_ring.specs.PosterView.{PosterView, PosterTask, Posting, Doorbell}

@@ -3,10 +3,10 @@ use Rattle.std.specs.Prelude.{ℕ, Option, Some, None}
 use Rattle.bus_core.specs.declared.turn.Note.{Note}
 use Rattle.actor_map.specs.Notes.{queue_number}
 use Rattle.actor_map.specs.declared.note.TheConstants.{POST, POST_FULL}
-use Rattle.verbs_model.specs.declared.completion.Queue.{Queue}
+use Rattle.verbs_types.specs.declared.completion.Queue.{Queue}
 use Rattle.provider_post.specs.declared.call.Call.{Call}
-use Rattle.provider_post.specs.declared.told.Told.{Told}
-use Rattle.provider_post.specs.declared.told.Told.TheVariants.{Nothing, Wrote, Full, Rang}
+use Rattle.provider_post.specs.declared.post_step.PostStep.{PostStep}
+use Rattle.provider_post.specs.declared.post_step.PostStep.TheVariants.{Nothing, Wrote, Full, Rang}
 
 -- a post of the items that were written, which saw this tail
 abbrev pub post_note : Queue → Call → ℕ → Note
@@ -17,7 +17,7 @@ abbrev pub full_note : Queue → Call → ℕ → ℕ → Note
 full_note queue c head seen = record { kind = POST_FULL; object = queue_number queue; a = c.accepted; b = head; c = seen; d = 0 }
 
 -- the store of the record and the load of a tail that shows the queue full have notes
-abbrev pub note_of : Queue → Call → Told → ℕ → Option Note
+abbrev pub note_of : Queue → Call → PostStep → ℕ → Option Note
 note_of queue c Nothing seen = None
 note_of queue c Wrote seen = None
 note_of queue c (Full head tail) seen = Some (full_note queue c head seen)

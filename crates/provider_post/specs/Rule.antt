@@ -3,10 +3,10 @@ use Rattle.std.specs.Prelude.{ℕ, List, take, Option, Some, None, slice_get, op
 use Rattle.bus_core.specs.declared.operation.BusEntry.{BusEntry}
 use Rattle.bus_core.specs.declared.turn.Note.{Note}
 use Rattle.bus_core.specs.declared.turn.Step.{Step}
-use Rattle.verbs_model.specs.declared.completion.Queue.{Queue}
-use Rattle.verbs_model.specs.declared.request.Item.{Item}
-use Rattle.verbs_model.specs.declared.entry.What.{What}
-use Rattle.verbs_model.specs.declared.entry.What.TheVariants.{Post, PostFull}
+use Rattle.verbs_types.specs.declared.completion.Queue.{Queue}
+use Rattle.verbs_types.specs.declared.request.Item.{Item}
+use Rattle.verbs_types.specs.declared.entry.What.{What}
+use Rattle.verbs_types.specs.declared.entry.What.TheVariants.{Post, PostFull}
 use Rattle.actor_map.specs.Notes.{note_of}
 use Rattle.counted_ring.specs.declared.place.WqPlace.{WqPlace}
 use Rattle.counted_ring.specs.Place.{is_send}
@@ -14,8 +14,8 @@ use Rattle.counted_ring.specs.Queue.{WqEvent}
 use Rattle.counted_ring.specs.Poster.{Poster}
 use Rattle.counted_ring.specs.PosterView.{MayBring, after_bring, brought}
 use Rattle.provider_post.specs.declared.call.Call.{Call}
-use Rattle.provider_post.specs.declared.told.Told.{Told}
-use Rattle.provider_post.specs.declared.told.Told.TheVariants.{Nothing, Wrote, Full, Rang}
+use Rattle.provider_post.specs.declared.post_step.PostStep.{PostStep}
+use Rattle.provider_post.specs.declared.post_step.PostStep.TheVariants.{Nothing, Wrote, Full, Rang}
 use Rattle.provider_post.specs.declared.answer.PostAnswer.{PostAnswer}
 use Rattle.provider_post.specs.Call.{mark_of, told_of, call_after, left_after, answer_with}
 use Rattle.provider_post.specs.Item.{WritesItem}
@@ -53,7 +53,7 @@ abbrev pub post_side_answer : WqPlace → PostRule → BusEntry → Step (Unit {
 post_side_answer place s e = answer_with (post_side_call place s e) (next_call place s e)
 
 -- the items that were written are posted at the store of the record, and a queue is told as full at the load that shows it full
-abbrev pub entry_told : Queue → List Item → Call → Told → Option What
+abbrev pub entry_told : Queue → List Item → Call → PostStep → Option What
 entry_told queue items c Nothing = None
 entry_told queue items c Wrote = None
 entry_told queue items c (Full head tail) = Some (PostFull queue c.accepted head tail)

@@ -3,7 +3,7 @@ ghost use Rattle.std.specs.Prelude.{◌≡◌, ◌<◌, ◌^◌};
 ghost use Rattle.provider_post.specs.Call as words;
 
 use crate::answer::{PostAnswer, Room};
-use crate::told::Told;
+use crate::post_step::PostStep;
 use bus_core::Step;
 use counted_ring::Posted;
 
@@ -40,44 +40,44 @@ impl Call {
     }
 
     /// What an operation tells that the poster answered so.
-    pub(crate) fn told(&self, answer: Step<(), Posted>) -> Told
+    pub(crate) fn told(&self, answer: Step<(), Posted>) -> PostStep
         ensures { result ≡ words.told_by self.now answer }
     {
         if self.is_written() {
             if self.recorded {
-                Told::Nothing
+                PostStep::Nothing
             } else {
-                Told::Rang
+                PostStep::Rang
             }
         } else {
             match answer {
-                Step::Done(Posted::Wrote) => Told::Wrote,
-                Step::Done(Posted::Full { head, tail }) => Told::Full { head, tail },
-                Step::Done(Posted::Rung) | Step::More | Step::Gave(()) => Told::Nothing,
+                Step::Done(Posted::Wrote) => PostStep::Wrote,
+                Step::Done(Posted::Full { head, tail }) => PostStep::Full { head, tail },
+                Step::Done(Posted::Rung) | Step::More | Step::Gave(()) => PostStep::Nothing,
             }
         }
     }
 
     /// The call after an operation that told this.
-    pub(crate) fn after(self, told: Told) -> Call
+    pub(crate) fn after(self, told: PostStep) -> Call
         requires { self.accepted < 2 ^ 31 }
         ensures { result ≡ words.call_after self told }
     {
         match told {
-            Told::Nothing => self,
-            Told::Wrote => Call {
+            PostStep::Nothing => self,
+            PostStep::Wrote => Call {
                 count: self.count,
                 accepted: self.accepted + 1,
                 refused: self.refused,
                 recorded: self.recorded,
             },
-            Told::Full { head, tail } => Call {
+            PostStep::Full { head, tail } => Call {
                 count: self.count,
                 accepted: self.accepted,
                 refused: Some(Room::Full { head, tail }),
                 recorded: self.recorded,
             },
-            Told::Rang => Call {
+            PostStep::Rang => Call {
                 count: self.count,
                 accepted: self.accepted,
                 refused: self.refused,

@@ -10,10 +10,10 @@ mod answer;
 mod call;
 mod note;
 mod post;
+mod post_step;
 mod queue_side;
 mod recv;
 mod start;
-mod told;
 
 pub use answer::{PostAnswer, Room};
 pub use call::Call;

@@ -5,19 +5,19 @@ ghost use Rattle.provider_post.specs.Note as words;
 ghost use Rattle.provider_post.specs.Queued.{number_of};
 
 use crate::call::Call;
-use crate::told::Told;
+use crate::post_step::PostStep;
 use actor_map::{POST, POST_FULL};
 use bus_core::Note;
-use verbs_model::Queue;
+use verbs_types::Queue;
 
 /// The note of an operation that told this, where the tail that was loaded last is `seen`.
-pub(crate) fn note_of(queue: Queue, call: &Call, told: Told, seen: u64) -> Option<Note>
+pub(crate) fn note_of(queue: Queue, call: &Call, told: PostStep, seen: u64) -> Option<Note>
     requires { number_of queue < 2 ^ 24 }
     ensures { result ≡ words.note_of queue call.now told seen }
 {
     match told {
-        Told::Nothing | Told::Wrote => None,
-        Told::Full { head, .. } => Some(Note {
+        PostStep::Nothing | PostStep::Wrote => None,
+        PostStep::Full { head, .. } => Some(Note {
             kind: POST_FULL,
             object: queue_number(queue),
             a: call.accepted as u64,
@@ -25,7 +25,7 @@ pub(crate) fn note_of(queue: Queue, call: &Call, told: Told, seen: u64) -> Optio
             c: seen,
             d: 0,
         }),
-        Told::Rang => Some(Note {
+        PostStep::Rang => Some(Note {
             kind: POST,
             object: queue_number(queue),
             a: call.accepted as u64,

@@ -3,10 +3,10 @@ ghost use Rattle.std.specs.Prelude.{◌≡◌, ◌<◌, ◌≤◌, ◌+◌, ◌^
 ghost use Rattle.bus_core.specs.Port.{Appends};
 ghost use Rattle.bus_core.specs.declared.operation.BusEntry.{BusEntry};
 ghost use Rattle.counted_ring.specs.Turn.{CanServe};
-ghost use Rattle.verbs_model.specs.Lines.{is_among};
-ghost use Rattle.verbs_model.specs.declared.completion.Queue.TheVariants.{Send};
-ghost use Rattle.verbs_model.specs.declared.declaration.TheConstants.{FIRST_QP};
-ghost use Rattle.verbs_model.specs.declared.request.Item.TheVariants.{Request as TheRequest};
+ghost use Rattle.verbs_types.specs.Lines.{is_among};
+ghost use Rattle.verbs_types.specs.declared.completion.Queue.TheVariants.{Send};
+ghost use Rattle.verbs_types.specs.declared.declaration.TheConstants.{FIRST_QP};
+ghost use Rattle.verbs_types.specs.declared.request.Item.TheVariants.{Request as TheRequest};
 ghost use Rattle.actor_map.specs.Map.{map_of};
 ghost use Rattle.actor_map.specs.Sizes.{words_of};
 ghost use Rattle.object_places.specs.Places.{send_of, qp_line, IsWithin};
@@ -22,7 +22,7 @@ use actor_map::AddressMap;
 use bus_core::{BusPort, Note, Step};
 use object_places::send_place;
 use std::marker::Model;
-use verbs_model::{Declared, Queue, Request};
+use verbs_types::{Declared, Queue, Request};
 use work_entries::encode_send;
 
 /// Posts the requests of a call to the send queue of a queue pair, one bus operation a turn. For each

@@ -16,7 +16,7 @@ use crate::note::note_of;
 use bus_core::{BusPort, Note, Step};
 use counted_ring::{WqPlace, WqPoster};
 use std::marker::Model;
-use verbs_model::Queue;
+use verbs_types::Queue;
 use work_entries::SendWords;
 
 /// Posts the entries of a call to a work queue, one bus operation a turn. For each entry it loads the

@@ -4,11 +4,11 @@ ghost use Rattle.std.specs.List.{AllByRecursion};
 ghost use Rattle.bus_core.specs.Port.{Appends};
 ghost use Rattle.bus_core.specs.declared.operation.BusEntry.{BusEntry};
 ghost use Rattle.counted_ring.specs.Turn.{CanServe};
-ghost use Rattle.verbs_model.specs.Lines.{is_among};
-ghost use Rattle.verbs_model.specs.declared.completion.Queue.TheVariants.{Recv};
-ghost use Rattle.verbs_model.specs.declared.declaration.TheConstants.{FIRST_QP};
-ghost use Rattle.verbs_model.specs.declared.request.Item.TheVariants.{Receive as TheReceive};
-ghost use Rattle.verbs_model.specs.declared.request.Sge.{Sge};
+ghost use Rattle.verbs_types.specs.Lines.{is_among};
+ghost use Rattle.verbs_types.specs.declared.completion.Queue.TheVariants.{Recv};
+ghost use Rattle.verbs_types.specs.declared.declaration.TheConstants.{FIRST_QP};
+ghost use Rattle.verbs_types.specs.declared.request.Item.TheVariants.{Receive as TheReceive};
+ghost use Rattle.verbs_types.specs.declared.request.Sge.{Sge};
 ghost use Rattle.work_entries.specs.Receive.{IsReal};
 ghost use Rattle.work_entries.specs.Receive.{room_of as room_for};
 ghost use Rattle.actor_map.specs.Map.{map_of};
@@ -27,7 +27,7 @@ use actor_map::AddressMap;
 use bus_core::{BusPort, Note, Step};
 use object_places::receive_place;
 use std::marker::Model;
-use verbs_model::{Declared, Queue, Receive, Sequence, Sge};
+use verbs_types::{Declared, Queue, Receive, Sequence, Sge};
 use work_entries::{SendWords, encode_recv};
 
 /// Posts the receives of a call to the receive queue of a queue pair, one bus operation a turn. For each

@@ -1,10 +1,10 @@
 //! Where the indices of a queue pair's queues begin.
 ghost use Rattle.std.specs.Prelude.{◌≡◌, ◌<◌, ◌≤◌, ◌^◌, IsTrue, length};
-ghost use Rattle.verbs_model.specs.Lines.{is_among};
-ghost use Rattle.verbs_model.specs.declared.declaration.TheConstants.{FIRST_QP};
+ghost use Rattle.verbs_types.specs.Lines.{is_among};
+ghost use Rattle.verbs_types.specs.declared.declaration.TheConstants.{FIRST_QP};
 ghost use Rattle.object_places.specs.Places.{qp_line};
 
-use verbs_model::{Declared, FIRST_QP};
+use verbs_types::{Declared, FIRST_QP};
 
 /// The block index of the first request of a queue pair, and of its first receive. The numbers of queue
 /// pairs have 24 bits.

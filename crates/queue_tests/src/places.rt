@@ -12,7 +12,7 @@ use object_places::{completion_place, receive_place, send_place};
 use sample_objects::{one_pair, with_pair, words};
 use std::alloc::Global;
 use std::test::Fail;
-use verbs_model::{Call, Declared, FIRST_QP, Sequence};
+use verbs_types::{Call, Declared, FIRST_QP, Sequence};
 
 /// A ring of 16 blocks, with their ids and head words.
 const SEND: WqPlace = WqPlace {

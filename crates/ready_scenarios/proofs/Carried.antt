@@ -3,18 +3,18 @@ use Rattle.std.proofs.Common.{◌≡◌, ℕ, suc, ◌-◌, ◌≤◌, nat_le, B
 use Rattle.std.specs.List.{All, AllByRecursion}
 use Rattle.std.proofs.lemmas.Bool.{leb-true}
 use Rattle.std.proofs.lemmas.Option.{get_or_from_slice_get}
-use Rattle.verbs_model.specs.declared.declaration.Lines.{Lines}
-use Rattle.verbs_model.specs.declared.declaration.QpLine.{QpLine}
-use Rattle.verbs_model.specs.declared.declaration.TheConstants.{FIRST_QP}
-use Rattle.verbs_model.specs.declared.request.Body.{Body}
-use Rattle.verbs_model.specs.declared.request.Item.TheVariants.{Request as TheRequest, Receive as TheReceive}
-use Rattle.verbs_model.specs.declared.request.Op.{Op}
-use Rattle.verbs_model.specs.declared.request.Op.TheVariants.{Nop}
-use Rattle.verbs_model.specs.declared.request.Receive.{Receive}
-use Rattle.verbs_model.specs.declared.request.Request.{Request}
-use Rattle.verbs_model.specs.declared.request.Sge.{Sge}
-use Rattle.verbs_model.specs.Lines.{is_declared, is_qp_line}
-use Rattle.verbs_model.proofs.Families.{among}
+use Rattle.verbs_types.specs.declared.declaration.Lines.{Lines}
+use Rattle.verbs_types.specs.declared.declaration.QpLine.{QpLine}
+use Rattle.verbs_types.specs.declared.declaration.TheConstants.{FIRST_QP}
+use Rattle.verbs_types.specs.declared.request.Body.{Body}
+use Rattle.verbs_types.specs.declared.request.Item.TheVariants.{Request as TheRequest, Receive as TheReceive}
+use Rattle.verbs_types.specs.declared.request.Op.{Op}
+use Rattle.verbs_types.specs.declared.request.Op.TheVariants.{Nop}
+use Rattle.verbs_types.specs.declared.request.Receive.{Receive}
+use Rattle.verbs_types.specs.declared.request.Request.{Request}
+use Rattle.verbs_types.specs.declared.request.Sge.{Sge}
+use Rattle.verbs_types.specs.Lines.{is_declared, is_qp_line}
+use Rattle.verbs_laws.proofs.Families.{among}
 use Rattle.actor_map.specs.Sizes.{stride}
 use Rattle.scenario_text.specs.Calls.{IsPlainNop, IsSegment, CanReceive, IsPair, segments_of}
 use Rattle.work_entries.specs.Body.{MayCarry}

@@ -3,16 +3,16 @@ use Rattle.std.proofs.Common.{◌≡◌, ℕ, zero, suc, ◌+◌, ◌-◌, ◌^�
 use Rattle.std.specs.List.{list_all}
 use Rattle.std.specs.Option.{option_map_or}
 use Rattle.std.proofs.lemmas.Bool.{and_parts, cond-true}
-use Rattle.verbs_model.specs.declared.call.Call.{Call}
-use Rattle.verbs_model.specs.declared.declaration.CqLine.{CqLine}
-use Rattle.verbs_model.specs.declared.declaration.QpLine.{QpLine}
-use Rattle.verbs_model.specs.declared.declaration.Lines.{Lines}
-use Rattle.verbs_model.specs.declared.declaration.TheConstants.{FIRST_QP}
-use Rattle.verbs_model.specs.declared.state.QueuePair.{QueuePair}
-use Rattle.verbs_model.specs.Lines.{is_declared, is_among, is_cq_line, is_qp_line}
-use Rattle.verbs_model.specs.Start.{start_pair, first_state, no_pair}
-use Rattle.verbs_model.specs.Sane.{into}
-use Rattle.verbs_model.proofs.Failing.{is_between-true}
+use Rattle.verbs_types.specs.declared.call.Call.{Call}
+use Rattle.verbs_types.specs.declared.declaration.CqLine.{CqLine}
+use Rattle.verbs_types.specs.declared.declaration.QpLine.{QpLine}
+use Rattle.verbs_types.specs.declared.declaration.Lines.{Lines}
+use Rattle.verbs_types.specs.declared.declaration.TheConstants.{FIRST_QP}
+use Rattle.verbs_types.specs.declared.state.QueuePair.{QueuePair}
+use Rattle.verbs_types.specs.Lines.{is_declared, is_among, is_cq_line, is_qp_line}
+use Rattle.verbs_rules.specs.Start.{start_pair, first_state, no_pair}
+use Rattle.verbs_rules.specs.Sane.{into}
+use Rattle.verbs_laws.proofs.Failing.{is_between-true}
 use Rattle.scenario_text.specs.Calls.{HasRoom}
 use Rattle.scenario_text.specs.Limits.{counted_into, completing_into}
 

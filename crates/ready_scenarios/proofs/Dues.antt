@@ -4,16 +4,16 @@ use Rattle.std.specs.List.{flat_map, list_any, sum_by, All, AllByRecursion}
 use Rattle.std.proofs.lemmas.List.{length-map}
 use Rattle.std.proofs.lemmas.List.Folds.{list_any-append}
 use Rattle.std.proofs.lemmas.List.Sums.{sum_by-append, sum_by-cons}
-use Rattle.verbs_model.specs.declared.call.Call.{Call}
-use Rattle.verbs_model.specs.declared.call.Call.TheVariants.{Post, Recv, Poll, Drain}
-use Rattle.verbs_model.specs.declared.completion.Queue.TheVariants as queues
-use Rattle.verbs_model.specs.declared.declaration.Lines.{Lines}
-use Rattle.verbs_model.specs.declared.declaration.TheConstants.{FIRST_QP}
-use Rattle.verbs_model.specs.declared.request.Item.TheVariants.{Request as TheRequest, Receive as TheReceive}
-use Rattle.verbs_model.specs.Lines.{is_among}
-use Rattle.verbs_model.specs.Answered.{Due, Posting, Draining, due_by}
-use Rattle.verbs_model.specs.Proper.{OnePosts, AreProper, IsProper, items_on, posts_on, retires_on, over_dues, dues_of_thread}
-use Rattle.verbs_model.proofs.Owing.{proper_rest}
+use Rattle.verbs_types.specs.declared.call.Call.{Call}
+use Rattle.verbs_types.specs.declared.call.Call.TheVariants.{Post, Recv, Poll, Drain}
+use Rattle.verbs_types.specs.declared.completion.Queue.TheVariants as queues
+use Rattle.verbs_types.specs.declared.declaration.Lines.{Lines}
+use Rattle.verbs_types.specs.declared.declaration.TheConstants.{FIRST_QP}
+use Rattle.verbs_types.specs.declared.request.Item.TheVariants.{Request as TheRequest, Receive as TheReceive}
+use Rattle.verbs_types.specs.Lines.{is_among}
+use Rattle.verbs_rules.specs.Answered.{Due, Posting, Draining, due_by}
+use Rattle.verbs_rules.specs.Proper.{OnePosts, AreProper, IsProper, items_on, posts_on, retires_on, over_dues, dues_of_thread}
+use Rattle.verbs_laws.proofs.Owing.{proper_rest}
 use Rattle.scenario_text.specs.Calls.{IsCall, IsProgram, IsOfOneThread, posts_on as call_posts_on}
 use Rattle.scenario_text.specs.Limits.{posted_by, posted_on}
 use Rattle.actor_rules.specs.Ready.{first_dues}

@@ -4,18 +4,18 @@ use Rattle.std.specs.Option.{option_map_or}
 use Rattle.std.proofs.lemmas.Bool.{and_from, le-leb, lt-ltb, ltb-false, cond-true, cond_both, false≢true}
 use Rattle.std.proofs.lemmas.List.{length-map, get_or_past}
 use Rattle.std.proofs.lemmas.Option.{slice_get_within}
-use Rattle.verbs_model.specs.declared.call.Call.{Call}
-use Rattle.verbs_model.specs.declared.completion.Queue.TheVariants.{Send}
-use Rattle.verbs_model.specs.declared.declaration.CqLine.{CqLine}
-use Rattle.verbs_model.specs.declared.declaration.QpLine.{QpLine}
-use Rattle.verbs_model.specs.declared.declaration.Lines.{Lines}
-use Rattle.verbs_model.specs.declared.declaration.TheConstants.{FIRST_QP}
-use Rattle.verbs_model.specs.declared.state.QueuePair.{QueuePair}
-use Rattle.verbs_model.specs.Lines.{is_among, is_cq_line, is_qp_line}
-use Rattle.verbs_model.specs.Sane.{Bounds, Sane, QueueSane, CompletionsSane, IsPair, numbers_in, waiting, into, taken_of, free_on}
-use Rattle.verbs_model.specs.Start.{start, fresh_queue, no_queue, fresh_completions, no_completions}
-use Rattle.verbs_model.specs.State.{WorkQueue, CompletionQueue, Verbs}
-use Rattle.verbs_model.proofs.Families.{among}
+use Rattle.verbs_types.specs.declared.call.Call.{Call}
+use Rattle.verbs_types.specs.declared.completion.Queue.TheVariants.{Send}
+use Rattle.verbs_types.specs.declared.declaration.CqLine.{CqLine}
+use Rattle.verbs_types.specs.declared.declaration.QpLine.{QpLine}
+use Rattle.verbs_types.specs.declared.declaration.Lines.{Lines}
+use Rattle.verbs_types.specs.declared.declaration.TheConstants.{FIRST_QP}
+use Rattle.verbs_types.specs.declared.state.QueuePair.{QueuePair}
+use Rattle.verbs_types.specs.Lines.{is_among, is_cq_line, is_qp_line}
+use Rattle.verbs_rules.specs.Sane.{Bounds, Sane, QueueSane, CompletionsSane, IsPair, numbers_in, waiting, into, taken_of, free_on}
+use Rattle.verbs_rules.specs.Start.{start, fresh_queue, no_queue, fresh_completions, no_completions}
+use Rattle.verbs_rules.specs.State.{WorkQueue, CompletionQueue, Verbs}
+use Rattle.verbs_laws.proofs.Families.{among}
 use Rattle.scenario_text.specs.Limits.{posted_on, counted_into}
 use Rattle.scenario_text.specs.Running.{CanRun}
 use Rattle.scenario_text.specs.declared.scenario.ScenarioParts.{ScenarioParts}

@@ -1,11 +1,11 @@
 -- Each thread of a scenario that can run is one that can run.
 use Rattle.std.proofs.Common.{◌≡◌, ℕ, suc, ◌<◌, [], length, map, IsTrue, arith}
 use Rattle.std.proofs.lemmas.List.{length-map}
-use Rattle.verbs_model.specs.declared.call.Call.{Call}
-use Rattle.verbs_model.specs.declared.call.Call.TheVariants.{Post, Recv, Poll, Drain}
-use Rattle.verbs_model.specs.declared.declaration.Lines.{Lines}
-use Rattle.verbs_model.specs.declared.request.Item.TheVariants.{Request as TheRequest, Receive as TheReceive}
-use Rattle.verbs_model.specs.Lines.{is_declared}
+use Rattle.verbs_types.specs.declared.call.Call.{Call}
+use Rattle.verbs_types.specs.declared.call.Call.TheVariants.{Post, Recv, Poll, Drain}
+use Rattle.verbs_types.specs.declared.declaration.Lines.{Lines}
+use Rattle.verbs_types.specs.declared.request.Item.TheVariants.{Request as TheRequest, Receive as TheReceive}
+use Rattle.verbs_types.specs.Lines.{is_declared}
 use Rattle.scenario_text.specs.Calls.{IsCall}
 use Rattle.scenario_text.specs.Running as scenario
 use Rattle.scenario_text.specs.declared.scenario.ScenarioParts.{ScenarioParts}

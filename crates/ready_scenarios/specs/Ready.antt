@@ -1,8 +1,8 @@
 -- What a scenario that can run gives to the law of all actors and to each of its threads.
 use Rattle.std.specs.Prelude.{ℕ, suc, ◌<◌, ◌≤◌, ◌^◌, List, length}
-use Rattle.verbs_model.specs.declared.call.Call.{Call}
-use Rattle.verbs_model.specs.declared.declaration.Lines.{Lines}
-use Rattle.verbs_model.specs.Sane.{Bounds}
+use Rattle.verbs_types.specs.declared.call.Call.{Call}
+use Rattle.verbs_types.specs.declared.declaration.Lines.{Lines}
+use Rattle.verbs_rules.specs.Sane.{Bounds}
 use Rattle.actor_map.specs.Sizes.{words_of}
 use Rattle.scenario_text.specs.Limits.{posted_on}
 use Rattle.scenario_text.specs.declared.scenario.ScenarioParts.{ScenarioParts}

@@ -1,8 +1,8 @@
 -- The declared lines.
 use Rattle.std.specs.Prelude.{ℕ, [], ◌∷◌, codes}
-use Rattle.verbs_model.specs.declared.declaration.QpLine.{QpLine}
-use Rattle.verbs_model.specs.declared.declaration.Object.TheVariants.{Eq, Pd, Cq, Qp}
-use Rattle.verbs_model.specs.declared.declaration.Lines.{Lines}
+use Rattle.verbs_types.specs.declared.declaration.QpLine.{QpLine}
+use Rattle.verbs_types.specs.declared.declaration.Object.TheVariants.{Eq, Pd, Cq, Qp}
+use Rattle.verbs_types.specs.declared.declaration.Lines.{Lines}
 
 -- the queue pair's line
 abbrev pub pair_of : ℕ → ℕ → ℕ → QpLine

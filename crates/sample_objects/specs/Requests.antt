@@ -1,11 +1,11 @@
 -- Requests and their completions.
 use Rattle.std.specs.Prelude.{ℕ, Bool, false, None, []}
-use Rattle.verbs_model.specs.declared.completion.Completion.{Completion}
-use Rattle.verbs_model.specs.declared.completion.Kind.{Kind}
-use Rattle.verbs_model.specs.declared.completion.Queue.{Queue}
-use Rattle.verbs_model.specs.declared.request.Body.{Body}
-use Rattle.verbs_model.specs.declared.request.Op.{Op}
-use Rattle.verbs_model.specs.declared.request.Request.{Request}
+use Rattle.verbs_types.specs.declared.completion.Completion.{Completion}
+use Rattle.verbs_types.specs.declared.completion.Kind.{Kind}
+use Rattle.verbs_types.specs.declared.completion.Queue.{Queue}
+use Rattle.verbs_types.specs.declared.request.Body.{Body}
+use Rattle.verbs_types.specs.declared.request.Op.{Op}
+use Rattle.verbs_types.specs.declared.request.Request.{Request}
 
 -- a request without operation
 abbrev pub nop : ℕ → Bool → Request

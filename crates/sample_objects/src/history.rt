@@ -2,7 +2,7 @@
 
 use crate::requests::{SEND, nop, nop_completion};
 use std::alloc::{AllocError, Global};
-use verbs_model::{ADAPTER, Completion, Entry, Item, Sequence, What};
+use verbs_types::{ADAPTER, Completion, Entry, Item, Sequence, What};
 
 /// Thread `a` posts two requests without operation, of which the second wants a completion. Thread `b`
 /// polls before that and finds nothing, and then takes the completion.

@@ -5,7 +5,7 @@ ghost use Rattle.sample_objects.specs.Pair.{lines_of, pair_of};
 
 use std::alloc::Global;
 use std::test::Fail;
-use verbs_model::{
+use verbs_types::{
     Connect, CqLine, Declared, EqLine, FIRST_PD, FIRST_QP, Lines, Name, Object, PdLine, QpLine,
     Sequence,
 };

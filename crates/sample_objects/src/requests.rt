@@ -3,7 +3,7 @@ ghost use Rattle.std.specs.Prelude.{◌≡◌};
 ghost use Rattle.sample_objects.specs.Requests as words;
 
 use std::alloc::Global;
-use verbs_model::{Body, Completion, FIRST_QP, Kind, Op, Queue, Request, Sequence};
+use verbs_types::{Body, Completion, FIRST_QP, Kind, Op, Queue, Request, Sequence};
 
 /// The queue pair's queues.
 pub const SEND: Queue = Queue::Send(FIRST_QP);

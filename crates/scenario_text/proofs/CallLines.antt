@@ -2,11 +2,11 @@
 use Rattle.std.proofs.Common.{◌≡◌, ℕ, suc, ◌+◌, ◌-◌, ◌<◌, ◌≤◌, ◌==◌, false, List, [], ◌∷◌, ◌++◌, length, All, IsTrue, None, Some, refl, sym, ap, ◌∙◌, subst, arith}
 use Rattle.std.proofs.lemmas.List.{length_push}
 use Rattle.std.proofs.lemmas.List.Elements.{All-nil, All-push}
-use Rattle.verbs_model.specs.declared.call.Call.{Call}
-use Rattle.verbs_model.specs.declared.call.Call.TheVariants.{Post, Recv, Poll, Drain}
-use Rattle.verbs_model.specs.declared.declaration.TheConstants.{FIRST_QP}
-use Rattle.verbs_model.specs.declared.request.Receive.{Receive}
-use Rattle.verbs_model.specs.declared.request.Request.{Request}
+use Rattle.verbs_types.specs.declared.call.Call.{Call}
+use Rattle.verbs_types.specs.declared.call.Call.TheVariants.{Post, Recv, Poll, Drain}
+use Rattle.verbs_types.specs.declared.declaration.TheConstants.{FIRST_QP}
+use Rattle.verbs_types.specs.declared.request.Receive.{Receive}
+use Rattle.verbs_types.specs.declared.request.Request.{Request}
 use Rattle.scenario_text.specs.AfterObjects.{change}
 use Rattle.scenario_text.specs.AfterCalls.{posted_by_thread, received_by_thread, polled_by_thread, poll_by_this, add_post, add_recv, add_poll, add_drain}
 use Rattle.scenario_text.specs.Calls.{CanReceive, IsCall, IsPlainNop, IsProgram, segments_of}

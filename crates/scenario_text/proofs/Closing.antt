@@ -3,10 +3,10 @@ use Rattle.std.proofs.Common.{◌≡◌, ℕ, ◌<◌, nat_lt, List, [], ◌∷�
 use Rattle.std.proofs.lemmas.Bool.{ltb-true}
 use Rattle.std.proofs.lemmas.List.{length_push}
 use Rattle.std.proofs.lemmas.List.Elements.{All-push}
-use Rattle.verbs_model.specs.declared.call.Call.{Call}
-use Rattle.verbs_model.specs.declared.call.Call.TheVariants.{Post, Recv}
-use Rattle.verbs_model.specs.declared.request.Receive.{Receive}
-use Rattle.verbs_model.specs.declared.request.Request.{Request}
+use Rattle.verbs_types.specs.declared.call.Call.{Call}
+use Rattle.verbs_types.specs.declared.call.Call.TheVariants.{Post, Recv}
+use Rattle.verbs_types.specs.declared.request.Receive.{Receive}
+use Rattle.verbs_types.specs.declared.request.Request.{Request}
 use Rattle.scenario_text.specs.AfterCalls.{close_post, close_recv}
 use Rattle.scenario_text.specs.Calls.{IsCall}
 use Rattle.scenario_text.specs.Sofar.{Said}

@@ -1,16 +1,16 @@
 -- Declared objects with one more.
 use Rattle.std.proofs.Common.{ℕ, ◌+◌, ◌≤◌, List, [], ◌∷◌, ◌++◌, length, IsTrue, arith}
 use Rattle.std.proofs.lemmas.Bool.{and_parts, and_from}
-use Rattle.verbs_model.specs.Lines.{are_in_turn, is_cq_line, is_qp_line, is_connect_line}
-use Rattle.verbs_model.specs.declared.declaration.Connect.{Connect}
-use Rattle.verbs_model.specs.declared.declaration.CqLine.{CqLine}
-use Rattle.verbs_model.specs.declared.declaration.EqLine.{EqLine}
-use Rattle.verbs_model.specs.declared.declaration.Lines.{Lines}
-use Rattle.verbs_model.specs.declared.declaration.Object.{Object}
-use Rattle.verbs_model.specs.declared.declaration.Object.TheVariants as objects
-use Rattle.verbs_model.specs.declared.declaration.PdLine.{PdLine}
-use Rattle.verbs_model.specs.declared.declaration.QpLine.{QpLine}
-use Rattle.verbs_model.specs.declared.declaration.TheConstants.{FIRST_PD, FIRST_QP}
+use Rattle.verbs_types.specs.Lines.{are_in_turn, is_cq_line, is_qp_line, is_connect_line}
+use Rattle.verbs_types.specs.declared.declaration.Connect.{Connect}
+use Rattle.verbs_types.specs.declared.declaration.CqLine.{CqLine}
+use Rattle.verbs_types.specs.declared.declaration.EqLine.{EqLine}
+use Rattle.verbs_types.specs.declared.declaration.Lines.{Lines}
+use Rattle.verbs_types.specs.declared.declaration.Object.{Object}
+use Rattle.verbs_types.specs.declared.declaration.Object.TheVariants as objects
+use Rattle.verbs_types.specs.declared.declaration.PdLine.{PdLine}
+use Rattle.verbs_types.specs.declared.declaration.QpLine.{QpLine}
+use Rattle.verbs_types.specs.declared.declaration.TheConstants.{FIRST_PD, FIRST_QP}
 use Rattle.scenario_text.proofs.Growing.{among_more, push_longer}
 
 -- the lines with one more

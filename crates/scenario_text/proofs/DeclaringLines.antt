@@ -2,14 +2,14 @@
 use Rattle.std.proofs.Common.{◌≡◌, ℕ, ◌+◌, ◌-◌, ◌^◌, ◌≤◌, min, false, List, [], ◌∷◌, ◌++◌, length, IsTrue, None, refl, ap, ◌∙◌, arith}
 use Rattle.std.proofs.lemmas.Bool.{and_from, le-leb}
 use Rattle.std.proofs.lemmas.List.{length_push}
-use Rattle.verbs_model.specs.Lines.{is_between, is_cq_line, is_qp_line}
-use Rattle.verbs_model.specs.declared.declaration.Connect.{Connect}
-use Rattle.verbs_model.specs.declared.declaration.CqLine.{CqLine}
-use Rattle.verbs_model.specs.declared.declaration.EqLine.{EqLine}
-use Rattle.verbs_model.specs.declared.declaration.Object.TheVariants as objects
-use Rattle.verbs_model.specs.declared.declaration.PdLine.{PdLine}
-use Rattle.verbs_model.specs.declared.declaration.QpLine.{QpLine}
-use Rattle.verbs_model.specs.declared.declaration.TheConstants.{FIRST_PD, FIRST_QP}
+use Rattle.verbs_types.specs.Lines.{is_between, is_cq_line, is_qp_line}
+use Rattle.verbs_types.specs.declared.declaration.Connect.{Connect}
+use Rattle.verbs_types.specs.declared.declaration.CqLine.{CqLine}
+use Rattle.verbs_types.specs.declared.declaration.EqLine.{EqLine}
+use Rattle.verbs_types.specs.declared.declaration.Object.TheVariants as objects
+use Rattle.verbs_types.specs.declared.declaration.PdLine.{PdLine}
+use Rattle.verbs_types.specs.declared.declaration.QpLine.{QpLine}
+use Rattle.verbs_types.specs.declared.declaration.TheConstants.{FIRST_PD, FIRST_QP}
 use Rattle.scenario_text.specs.Text.{name_in, small, small_at}
 use Rattle.scenario_text.specs.AfterObjects.{change, connected, add_eq, add_pd, add_cq, add_qp, add_connect}
 use Rattle.scenario_text.specs.Bounds.{size_of, recv_log_at}

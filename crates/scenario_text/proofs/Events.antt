@@ -1,6 +1,6 @@
 -- The limits of event queues, one queue after another.
 use Rattle.std.proofs.Common.{◌≡◌, ℕ, zero, suc, ◌+◌, ◌<◌, ◌≤◌, List, [], ◌∷◌, length, drop, slice_index_or, Option, refl, sym, ap, ap₂, ◌∙◌, subst, arith}
-use Rattle.verbs_model.specs.declared.declaration.EqLine.{EqLine}
+use Rattle.verbs_types.specs.declared.declaration.EqLine.{EqLine}
 use Rattle.scenario_text.specs.Bounds.{bound, passed_by, passed_after, event_bounds, events_on, size_of}
 use Rattle.scenario_text.specs.Sofar.{Said}
 use Rattle.scenario_text.specs.declared.bounds.Bound.{Bound}

@@ -5,7 +5,7 @@ use Rattle.std.proofs.lemmas.Bool.{and_parts, and_from, cases_lt}
 use Rattle.std.proofs.lemmas.Bool.Decides.{nat_tests}
 use Rattle.std.proofs.lemmas.List.{length_push, get_or_append_left, get_or_push}
 use Rattle.std.proofs.lemmas.Option.{same_Some, none-some}
-use Rattle.verbs_model.specs.Lines.{is_among}
+use Rattle.verbs_types.specs.Lines.{is_among}
 use Rattle.scenario_text.specs.AfterObjects.{change}
 use Rattle.scenario_text.proofs.Standing.{Each}
 

@@ -1,10 +1,10 @@
 -- A line of a thread that breaks no rule keeps what holds.
 use Rattle.std.proofs.Common.{◌≡◌, ℕ, Bool, false, ◌&&◌, ◌||◌, nat_lt, List, [], ◌∷◌, ◌++◌, length, IsTrue, Option, None, Some, true≢false, refl, sym, ap, ◌∙◌, subst, arith}
 use Rattle.std.proofs.lemmas.Bool.{and_parts}
-use Rattle.verbs_model.specs.declared.call.Call.{Call}
-use Rattle.verbs_model.specs.declared.call.Call.TheVariants as calls
-use Rattle.verbs_model.specs.declared.request.Receive.{Receive}
-use Rattle.verbs_model.specs.declared.request.Request.{Request}
+use Rattle.verbs_types.specs.declared.call.Call.{Call}
+use Rattle.verbs_types.specs.declared.call.Call.TheVariants as calls
+use Rattle.verbs_types.specs.declared.request.Receive.{Receive}
+use Rattle.verbs_types.specs.declared.request.Request.{Request}
 use Rattle.scenario_text.specs.After.{note_limits, add_line}
 use Rattle.scenario_text.specs.AfterCalls.{receive_in as line_receive, close_place, take_room_of, add_end, add_post, add_recv, add_request, add_receive, add_poll, add_drain}
 use Rattle.scenario_text.specs.Bounds.{bounds_of, passed_after, segment_bounds}

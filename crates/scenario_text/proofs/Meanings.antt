@@ -1,9 +1,9 @@
 -- Names that stand for what is there.
 use Rattle.std.proofs.Common.{ℕ, Bool, true, false, cond, List, [], ◌∷◌, ◌++◌, IsTrue, Some, is_some, unwrap_or, option_and_then, bytes_eq, true≢false, sym, arith}
 use Rattle.std.proofs.lemmas.List.Elements.{All-push, All-head, All-tail, All-weaker}
-use Rattle.verbs_model.specs.declared.declaration.Lines.{Lines}
-use Rattle.verbs_model.specs.declared.declaration.Object.TheVariants as objects
-use Rattle.verbs_model.specs.declared.declaration.TheConstants.{FIRST_PD, FIRST_QP}
+use Rattle.verbs_types.specs.declared.declaration.Lines.{Lines}
+use Rattle.verbs_types.specs.declared.declaration.Object.TheVariants as objects
+use Rattle.verbs_types.specs.declared.declaration.TheConstants.{FIRST_PD, FIRST_QP}
 use Rattle.scenario_text.specs.Naming.{Entry, meaning_of, number_as, number_named}
 use Rattle.scenario_text.specs.declared.names.Meaning.{Meaning}
 use Rattle.scenario_text.specs.declared.names.Meaning.TheVariants.{Taken, Actor, Object}

@@ -1,8 +1,8 @@
 -- Lines that declare objects and connect queue pairs.
 use Rattle.std.proofs.Common.{◌≡◌, ℕ, List, [], length, All, Option, sym, ap, ◌∙◌, subst, arith}
 use Rattle.std.proofs.lemmas.List.Elements.{All-nil}
-use Rattle.verbs_model.specs.declared.call.Call.{Call}
-use Rattle.verbs_model.specs.declared.declaration.Lines.{Lines}
+use Rattle.verbs_types.specs.declared.call.Call.{Call}
+use Rattle.verbs_types.specs.declared.declaration.Lines.{Lines}
 use Rattle.scenario_text.specs.Calls.{IsProgram}
 use Rattle.scenario_text.specs.Naming.{Entry}
 use Rattle.scenario_text.specs.Running.{IsActorOf, items_of_plan}

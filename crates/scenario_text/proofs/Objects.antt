@@ -2,15 +2,15 @@
 use Rattle.std.proofs.Common.{◌≡◌, ℕ, ◌+◌, ◌≤◌, List, [], ◌∷◌, ◌++◌, length, IsTrue, sym, arith}
 use Rattle.std.proofs.lemmas.Bool.{and_parts, and_from, leb-true, le-leb, eqb-true, eq-eqb}
 use Rattle.std.proofs.lemmas.List.{length_push}
-use Rattle.verbs_model.specs.Lines.{are_few, are_in_turn, is_eq_line, is_cq_line, is_qp_line, is_connect_line}
-use Rattle.verbs_model.specs.declared.declaration.Connect.{Connect}
-use Rattle.verbs_model.specs.declared.declaration.CqLine.{CqLine}
-use Rattle.verbs_model.specs.declared.declaration.EqLine.{EqLine}
-use Rattle.verbs_model.specs.declared.declaration.Lines.{Lines}
-use Rattle.verbs_model.specs.declared.declaration.Object.TheVariants as objects
-use Rattle.verbs_model.specs.declared.declaration.PdLine.{PdLine}
-use Rattle.verbs_model.specs.declared.declaration.QpLine.{QpLine}
-use Rattle.verbs_model.specs.declared.declaration.TheConstants.{FIRST_PD, FIRST_QP}
+use Rattle.verbs_types.specs.Lines.{are_few, are_in_turn, is_eq_line, is_cq_line, is_qp_line, is_connect_line}
+use Rattle.verbs_types.specs.declared.declaration.Connect.{Connect}
+use Rattle.verbs_types.specs.declared.declaration.CqLine.{CqLine}
+use Rattle.verbs_types.specs.declared.declaration.EqLine.{EqLine}
+use Rattle.verbs_types.specs.declared.declaration.Lines.{Lines}
+use Rattle.verbs_types.specs.declared.declaration.Object.TheVariants as objects
+use Rattle.verbs_types.specs.declared.declaration.PdLine.{PdLine}
+use Rattle.verbs_types.specs.declared.declaration.QpLine.{QpLine}
+use Rattle.verbs_types.specs.declared.declaration.TheConstants.{FIRST_PD, FIRST_QP}
 use Rattle.scenario_text.proofs.Declaring.{with_eq, with_pd, with_cq, with_qp, with_connect, with_thread, more_eq, more_pd, more_cq, more_qp, more_connect, cq_line_more, qp_line_more, connect_line_more, turn_more}
 use Rattle.scenario_text.proofs.Growing.{all_weaker, all_push}
 use Rattle.scenario_text.proofs.Standing.{AreDeclared}

@@ -6,7 +6,7 @@ use Rattle.std.proofs.lemmas.Bool.{and_parts, and_from, eq-eqb, ltb-true, not-tr
 use Rattle.std.proofs.lemmas.List.{length-map}
 use Rattle.std.proofs.lemmas.List.Elements.{All-nil, All-cons}
 use Rattle.std.proofs.lemmas.List.Sums.{sum_by-cons}
-use Rattle.verbs_model.specs.declared.request.Sge.{Sge}
+use Rattle.verbs_types.specs.declared.request.Sge.{Sge}
 use Rattle.scenario_text.specs.AfterCalls.{receive_in}
 use Rattle.scenario_text.specs.Bounds.{segment_bounds}
 use Rattle.scenario_text.specs.Calls.{CanReceive, IsSegment, bytes_of, list_end}

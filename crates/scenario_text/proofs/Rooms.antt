@@ -3,8 +3,8 @@ use Rattle.std.proofs.Common.{◌≡◌, ℕ, zero, suc, ◌+◌, ◌≤◌, ◌
 use Rattle.std.proofs.lemmas.Bool.{eq-eqb, ne_eqb}
 use Rattle.std.proofs.lemmas.List.Sums.{sum_by_push}
 use Rattle.std.proofs.lemmas.Option.{same_Some, none-some}
-use Rattle.verbs_model.specs.declared.call.Call.{Call}
-use Rattle.verbs_model.specs.declared.declaration.QpLine.{QpLine}
+use Rattle.verbs_types.specs.declared.call.Call.{Call}
+use Rattle.verbs_types.specs.declared.declaration.QpLine.{QpLine}
 use Rattle.scenario_text.specs.Limits.{posted_on, received_on, counted_into, completing_into}
 
 one_here : (into : Bool) (n b m r z : ℕ) → n ≡ b + 1 → m ≡ r → z ≡ cond into 1 0 → cond into n 0 + m ≡ cond into b 0 + r + z

@@ -1,6 +1,6 @@
 -- No list is longer than the text.
 use Rattle.std.proofs.Common.{◌≡◌, ℕ, ◌+◌, ◌<◌, ◌≤◌, Bool, true, false, cond, List, [], ◌∷◌, ◌++◌, length, length-append, Option, Some, None, refl, ap, arith}
-use Rattle.verbs_model.specs.declared.declaration.Lines.{Lines}
+use Rattle.verbs_types.specs.declared.declaration.Lines.{Lines}
 use Rattle.scenario_text.specs.After.{after_line, add_line, add_known, count_line, note_limits}
 use Rattle.scenario_text.specs.AfterCalls.{close_place, take_room_of}
 use Rattle.scenario_text.specs.Keywords.{keyword_in}

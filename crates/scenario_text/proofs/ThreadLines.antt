@@ -3,7 +3,7 @@ use Rattle.std.proofs.Common.{◌≡◌, ℕ, suc, ◌+◌, ◌≤◌, List, [],
 use Rattle.std.proofs.lemmas.List.{length_push}
 use Rattle.std.proofs.lemmas.List.Elements.{All-nil, All-push, All-weaker}
 use Rattle.std.proofs.lemmas.List.Sums.{sum_by_push}
-use Rattle.verbs_model.specs.declared.call.Call.{Call}
+use Rattle.verbs_types.specs.declared.call.Call.{Call}
 use Rattle.scenario_text.specs.Text.{name_in}
 use Rattle.scenario_text.specs.AfterCalls.{add_thread, add_end}
 use Rattle.scenario_text.specs.Calls.{IsCall, IsProgram}

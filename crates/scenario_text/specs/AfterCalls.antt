@@ -1,11 +1,11 @@
 -- What a line of a thread adds.
 use Rattle.std.specs.Prelude.{ℕ, ◌+◌, ◌-◌, [], ◌∷◌, ◌++◌, map, length, Option, None, Some}
-use Rattle.verbs_model.specs.declared.call.Call.TheVariants as calls
-use Rattle.verbs_model.specs.declared.declaration.TheConstants.{FIRST_QP}
-use Rattle.verbs_model.specs.declared.request.Body.TheVariants.{Sges}
-use Rattle.verbs_model.specs.declared.request.Op.TheVariants.{Nop}
-use Rattle.verbs_model.specs.declared.request.Receive.{Receive}
-use Rattle.verbs_model.specs.declared.request.Request.{Request}
+use Rattle.verbs_types.specs.declared.call.Call.TheVariants as calls
+use Rattle.verbs_types.specs.declared.declaration.TheConstants.{FIRST_QP}
+use Rattle.verbs_types.specs.declared.request.Body.TheVariants.{Sges}
+use Rattle.verbs_types.specs.declared.request.Op.TheVariants.{Nop}
+use Rattle.verbs_types.specs.declared.request.Receive.{Receive}
+use Rattle.verbs_types.specs.declared.request.Request.{Request}
 use Rattle.scenario_text.specs.AfterObjects.{give, change}
 use Rattle.scenario_text.specs.Segments.{segment_fields, segment_in}
 use Rattle.scenario_text.specs.Slots.{has_flag}

@@ -1,8 +1,8 @@
 -- What a line of an object or of a connection adds.
 use Rattle.std.specs.Prelude.{ℕ, zero, suc, ◌+◌, ◌-◌, List, [], ◌∷◌, ◌++◌, length, None, true, false}
-use Rattle.verbs_model.specs.declared.declaration.Object.{Object as TheObject}
-use Rattle.verbs_model.specs.declared.declaration.Object.TheVariants as objects
-use Rattle.verbs_model.specs.declared.declaration.TheConstants.{FIRST_PD, FIRST_QP}
+use Rattle.verbs_types.specs.declared.declaration.Object.{Object as TheObject}
+use Rattle.verbs_types.specs.declared.declaration.Object.TheVariants as objects
+use Rattle.verbs_types.specs.declared.declaration.TheConstants.{FIRST_PD, FIRST_QP}
 use Rattle.scenario_text.specs.Text.{Line, part_at, number_at, small, small_at, name_in}
 use Rattle.scenario_text.specs.Sofar.{Said}
 use Rattle.scenario_text.specs.Uses.{named, qp_named, cq_named}

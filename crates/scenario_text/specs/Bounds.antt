@@ -2,9 +2,9 @@
 use Rattle.std.specs.Prelude.{ℕ, ◌+◌, ◌*◌, ◌-◌, ◌^◌, ◌==◌, List, [], ◌∷◌, ◌++◌, length, min, Option, None, Some, Bool, ◌&&◌, nat_le, if◌then◌else◌}
 use Rattle.std.specs.List.{fold, count_by}
 use Rattle.std.specs.Option.{unwrap_or}
-use Rattle.verbs_model.specs.declared.declaration.CqLine.{CqLine}
-use Rattle.verbs_model.specs.declared.declaration.EqLine.{EqLine}
-use Rattle.verbs_model.specs.declared.declaration.Lines.{Lines}
+use Rattle.verbs_types.specs.declared.declaration.CqLine.{CqLine}
+use Rattle.verbs_types.specs.declared.declaration.EqLine.{EqLine}
+use Rattle.verbs_types.specs.declared.declaration.Lines.{Lines}
 use Rattle.actor_map.specs.Sizes.{words_of}
 use Rattle.actor_map.specs.Weight.{weight, capped}
 use Rattle.scenario_text.specs.Text.{Line, number_at, part_at, read_number}

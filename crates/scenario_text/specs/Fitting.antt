@@ -1,6 +1,6 @@
 -- What a line that breaks no rule gives to those who add it.
 use Rattle.std.specs.Prelude.{◌≡◌, IsTrue, None, ⊤}
-use Rattle.verbs_model.specs.Names.{is_name}
+use Rattle.verbs_types.specs.Names.{is_name}
 use Rattle.scenario_text.specs.Text.{Line, name_in}
 use Rattle.scenario_text.specs.Naming.{meaning_of}
 use Rattle.scenario_text.specs.Sofar.{Said}

@@ -1,9 +1,9 @@
 -- Counts of a scenario that have a bound.
 use Rattle.std.specs.Prelude.{ℕ, zero, suc, ◌+◌, ◌*◌, ◌==◌, if◌then◌else◌, List, [], ◌∷◌, ◌++◌, length, Option, None, Some, replicate}
 use Rattle.std.specs.List.{flat_map, sum_by, range_with_len}
-use Rattle.verbs_model.specs.declared.call.Call.{Call}
-use Rattle.verbs_model.specs.declared.call.Call.TheVariants.{Post, Recv, Poll, Drain}
-use Rattle.verbs_model.specs.declared.declaration.QpLine.{QpLine}
+use Rattle.verbs_types.specs.declared.call.Call.{Call}
+use Rattle.verbs_types.specs.declared.call.Call.TheVariants.{Post, Recv, Poll, Drain}
+use Rattle.verbs_types.specs.declared.declaration.QpLine.{QpLine}
 use Rattle.scenario_text.specs.declared.scenario.Plan.{Plan}
 use Rattle.scenario_text.specs.declared.scenario.Plan.TheVariants.{Idle, Schedule, Rounds}
 use Rattle.scenario_text.specs.declared.scenario.PlanItem.{PlanItem}

@@ -1,7 +1,7 @@
 -- What names stand for.
 use Rattle.std.specs.Prelude.{ℕ, List, [], ◌∷◌, codes, Option, None, Some, if◌then◌else◌, bytes_eq}
 use Rattle.std.specs.Option.{option_and_then}
-use Rattle.verbs_model.specs.declared.declaration.Object.TheVariants as objects
+use Rattle.verbs_types.specs.declared.declaration.Object.TheVariants as objects
 use Rattle.scenario_text.specs.declared.names.Meaning.{Meaning}
 use Rattle.scenario_text.specs.declared.names.Meaning.TheVariants.{Taken, Actor, Object}
 use Rattle.scenario_text.specs.declared.slot.Kind.{Kind}

@@ -1,15 +1,15 @@
 -- The texts of requests and receives, field by field.
 use Rattle.std.specs.Prelude.{ℕ, zero, suc, ◌+◌, ◌/◌, ◌%◌, Bool, true, false, nat_lt, if◌then◌else◌, List, [], ◌∷◌, ◌++◌, map, codes, decimal}
 use Rattle.std.specs.List.{flat_map, join_with_byte}
-use Rattle.verbs_model.specs.declared.request.Sge.{Sge}
-use Rattle.verbs_model.specs.declared.request.Body.{Body}
-use Rattle.verbs_model.specs.declared.request.Body.TheVariants.{Sges, Inline}
-use Rattle.verbs_model.specs.declared.request.Op.{Op}
-use Rattle.verbs_model.specs.declared.request.Op.TheVariants.{Nop, Send, SendImm, Write, WriteImm, Read, Cas, Faa}
-use Rattle.verbs_model.specs.declared.request.Request.{Request}
-use Rattle.verbs_model.specs.declared.request.Receive.{Receive}
-use Rattle.verbs_model.specs.declared.request.Item.{Item}
-use Rattle.verbs_model.specs.declared.request.Item.TheVariants.{Request as TheRequest, Receive as TheReceive}
+use Rattle.verbs_types.specs.declared.request.Sge.{Sge}
+use Rattle.verbs_types.specs.declared.request.Body.{Body}
+use Rattle.verbs_types.specs.declared.request.Body.TheVariants.{Sges, Inline}
+use Rattle.verbs_types.specs.declared.request.Op.{Op}
+use Rattle.verbs_types.specs.declared.request.Op.TheVariants.{Nop, Send, SendImm, Write, WriteImm, Read, Cas, Faa}
+use Rattle.verbs_types.specs.declared.request.Request.{Request}
+use Rattle.verbs_types.specs.declared.request.Receive.{Receive}
+use Rattle.verbs_types.specs.declared.request.Item.{Item}
+use Rattle.verbs_types.specs.declared.request.Item.TheVariants.{Request as TheRequest, Receive as TheReceive}
 
 -- a line of these fields
 abbrev pub line : List (List ℕ) → List ℕ

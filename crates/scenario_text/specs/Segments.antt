@@ -1,8 +1,8 @@
 -- The text of a scatter/gather entry: its key, its address and its length.
 use Rattle.std.specs.Prelude.{ℕ, ◌==◌, drop, length, Bool, not, ◌||◌, ◌&&◌, is_some, slice_index}
 use Rattle.std.specs.Option.{unwrap_or}
-use Rattle.verbs_model.specs.Names.{is_name}
-use Rattle.verbs_model.specs.declared.request.Sge.{Sge}
+use Rattle.verbs_types.specs.Names.{is_name}
+use Rattle.verbs_types.specs.declared.request.Sge.{Sge}
 use Rattle.scenario_text.specs.Text.{Field, Line, split, part_at, is_digits, is_number, read_number, read_hex_pair, read_key, small}
 
 -- the fields in which the entries of a receive stand: all after its id

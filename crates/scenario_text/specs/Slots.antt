@@ -1,7 +1,7 @@
 -- What may stand in each place of a line, whatever stands before it.
 use Rattle.std.specs.Prelude.{ℕ, ◌==◌, List, [], ◌∷◌, codes, Bool, true, ◌||◌, ◌&&◌, nat_eq, drop, length, bytes_eq}
 use Rattle.std.specs.List.{list_any, starts_with}
-use Rattle.verbs_model.specs.Names.{is_name}
+use Rattle.verbs_types.specs.Names.{is_name}
 use Rattle.scenario_text.specs.Segments as segments
 use Rattle.scenario_text.specs.Text.{Field, split, part_at, is_digits, is_number}
 use Rattle.scenario_text.specs.declared.slot.Slot.{Slot}

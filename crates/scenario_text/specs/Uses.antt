@@ -1,8 +1,8 @@
 -- What the lines so far say of the objects that a line names.
 use Rattle.std.specs.Prelude.{ℕ, ◌-◌, Bool, true, false, nat_lt, Option, None, Some, slice_get}
 use Rattle.std.specs.Option.{unwrap_or, option_map_or}
-use Rattle.verbs_model.specs.declared.declaration.QpLine.{QpLine}
-use Rattle.verbs_model.specs.declared.declaration.TheConstants.{FIRST_QP}
+use Rattle.verbs_types.specs.declared.declaration.QpLine.{QpLine}
+use Rattle.verbs_types.specs.declared.declaration.TheConstants.{FIRST_QP}
 use Rattle.scenario_text.specs.Calls.{segments_of}
 use Rattle.scenario_text.specs.Text.{Field}
 use Rattle.scenario_text.specs.Naming.{number_named}

@@ -1,6 +1,6 @@
 -- What a whole text says.
 use Rattle.std.specs.Prelude.{ℕ, ◌≡◌, ◌+◌, IsTrue, List, [], ◌∷◌, length, nat_lt, Option, None, Some, Result, Ok, Err, ⊤, if◌then◌else◌}
-use Rattle.verbs_model.specs.Lines.{is_declared}
+use Rattle.verbs_types.specs.Lines.{is_declared}
 use Rattle.scenario_text.specs.Text.{split}
 use Rattle.scenario_text.specs.Naming.{taken_names}
 use Rattle.scenario_text.specs.Sofar.{Said}

@@ -14,7 +14,7 @@ use crate::slot::{Kind, TIMES};
 use crate::sofar::Sofar;
 use crate::values::number;
 use std::alloc::{AllocError, Global};
-use verbs_model::Sequence;
+use verbs_types::Sequence;
 
 impl Sofar {
     /// Adds a line that breaks no rule.

@@ -1,6 +1,6 @@
 //! The limits of lines and of whole texts.
 ghost use Rattle.std.specs.Prelude.{◌≡◌, ◌<◌, ◌==◌, ◌^◌, ◌-◌, ◌+◌, length, min};
-ghost use Rattle.verbs_model.specs.declared.declaration.CqLine.{CqLine as TheCqLine};
+ghost use Rattle.verbs_types.specs.declared.declaration.CqLine.{CqLine as TheCqLine};
 ghost use Rattle.std.specs.List.{count_by, sum_by};
 ghost use Rattle.scenario_text.specs.After as after;
 ghost use Rattle.scenario_text.specs.Bounds as bounds;

@@ -1,6 +1,6 @@
 //! What the lines of threads add.
 ghost use Rattle.std.specs.Prelude.{◌≡◌, ◌<◌, OnOk, IfOk, IsTrue, None, length, map};
-ghost use Rattle.verbs_model.specs.Names.{is_name};
+ghost use Rattle.verbs_types.specs.Names.{is_name};
 ghost use Rattle.scenario_text.specs.AfterCalls as after;
 ghost use Rattle.scenario_text.specs.Naming.{meaning_of};
 ghost use Rattle.scenario_text.specs.Segments.{segment_in};
@@ -15,7 +15,7 @@ use crate::sofar::{PairUse, Place, QueueUse, Sofar};
 use crate::values::{name, number, small};
 use std::alloc::{AllocError, Global};
 use std::mem;
-use verbs_model::{Body, Call, FIRST_QP, Op, Receive, Request, Sequence, Sge};
+use verbs_types::{Body, Call, FIRST_QP, Op, Receive, Request, Sequence, Sge};
 
 impl Sofar {
     /// Ends the list of requests or receives in which the line stands.

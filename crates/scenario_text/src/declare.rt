@@ -1,6 +1,6 @@
 //! What the lines of objects and connections add.
 ghost use Rattle.std.specs.Prelude.{◌≡◌, ◌<◌, OnOk, IsTrue, None, length};
-ghost use Rattle.verbs_model.specs.Names.{is_name};
+ghost use Rattle.verbs_types.specs.Names.{is_name};
 ghost use Rattle.scenario_text.specs.AfterObjects as after;
 ghost use Rattle.scenario_text.specs.Naming.{meaning_of};
 ghost use Rattle.scenario_text.specs.Sofar.{view_of};
@@ -12,7 +12,7 @@ use crate::slot::Kind;
 use crate::sofar::{PairUse, QueueUse, Sofar};
 use crate::values::{name, number, recv_log, saturated, size, small};
 use std::alloc::{AllocError, Global};
-use verbs_model::{Connect, CqLine, EqLine, FIRST_PD, FIRST_QP, Object, PdLine, QpLine};
+use verbs_types::{Connect, CqLine, EqLine, FIRST_PD, FIRST_QP, Object, PdLine, QpLine};
 
 impl Sofar {
     pub fn give(&mut self, alloc: Global, line: &[u8], meaning: Meaning) -> Result<(), AllocError>

@@ -1,7 +1,7 @@
 //! Readers of lines, fields, names, numbers, hexadecimal digits and keys.
 ghost use Rattle.std.specs.Prelude.{◌≡◌, ◌+◌, ◌≤◌, length};
 ghost use Rattle.std.specs.List.{list_all};
-ghost use Rattle.verbs_model.specs.Names as names;
+ghost use Rattle.verbs_types.specs.Names as names;
 ghost use Rattle.scenario_text.specs.Text as text;
 
 pub use crate::parts::{LINE_END, Parts, SPACE, cut, has_parts, part};

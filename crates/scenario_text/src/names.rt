@@ -6,7 +6,7 @@ use crate::slot::Kind;
 use indexmap::IndexMap;
 use std::alloc::{AllocError, Global};
 use std::marker::Model;
-use verbs_model::Object;
+use verbs_types::Object;
 
 /// What a name stands for.
 #[derive(Clone, Copy, Debug, PartialEq, Eq)]

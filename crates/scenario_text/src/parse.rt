@@ -1,7 +1,7 @@
 //! From a text to a scenario.
 ghost use Rattle.std.specs.Prelude.{◌≡◌, ◌≤◌, IfOk, IfErr, length, Ok, Err};
 ghost use Rattle.std.specs.Prelude.{IsTrue};
-ghost use Rattle.verbs_model.specs.Lines.{is_declared};
+ghost use Rattle.verbs_types.specs.Lines.{is_declared};
 ghost use Rattle.scenario_text.specs.Whole.{EndsDeclared, HasFault, Says, end_of, nothing_said, parts_said};
 ghost use Rattle.scenario_text.specs.Sofar.{view_of};
 
@@ -13,7 +13,7 @@ use crate::parts::{LINE_END, cut};
 use crate::scenario::{Plan, Scenario, ScenarioParts};
 use crate::sofar::{Passed, Place, Sofar};
 use std::alloc::{AllocError, Global};
-use verbs_model::{Declared, Lines, Sequence};
+use verbs_types::{Declared, Lines, Sequence};
 
 /// The most bytes of a text.
 const MAX_TEXT: usize = 4_194_304;

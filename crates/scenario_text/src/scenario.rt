@@ -4,7 +4,7 @@ ghost use Rattle.scenario_text.specs.Whole.{IsScenario};
 ghost use Rattle.scenario_text.specs.Running.{CanRun};
 
 use std::marker::Model;
-use verbs_model::{Call, Declared, Sequence};
+use verbs_types::{Call, Declared, Sequence};
 
 /// An item of a schedule: this actor's turns.
 #[derive(Clone, Copy, Debug, PartialEq, Eq)]

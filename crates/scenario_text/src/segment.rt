@@ -6,7 +6,7 @@ ghost use Rattle.scenario_text.specs.Text.{split};
 use crate::lines::{is_digits, is_name, is_number, read_hex_pair, read_key, read_number};
 use crate::parts::{Parts, SPACE, has_parts, part};
 use crate::values::saturated;
-use verbs_model::Sge;
+use verbs_types::Sge;
 
 /// What stands between the parts of an entry.
 const COLON: u8 = b':';

@@ -4,7 +4,7 @@ use crate::fault::LimitName;
 use crate::keyword::Section;
 use crate::names::Names;
 use crate::scenario::Plan;
-use verbs_model::{
+use verbs_types::{
     Call, Connect, CqLine, EqLine, Name, Object, PdLine, QpLine, Receive, Request, Sequence,
 };
 

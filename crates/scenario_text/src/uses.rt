@@ -6,7 +6,7 @@ ghost use Rattle.scenario_text.specs.Uses as uses;
 
 use crate::slot::Kind;
 use crate::sofar::{PairUse, Place, QueueUse, Sofar};
-use verbs_model::FIRST_QP;
+use verbs_types::FIRST_QP;
 
 impl Sofar {
     /// The number of the object of this kind, or of the actor, with this name; 0 where there is none.

@@ -8,7 +8,7 @@ use crate::lines::read_number;
 use crate::parts::{SPACE, part};
 use crate::slot::after_rq;
 use std::alloc::{AllocError, Global};
-use verbs_model::Name;
+use verbs_types::Name;
 
 /// The name that a line gives.
 pub fn name(alloc: Global, line: &[u8]) -> Result<Name, AllocError>

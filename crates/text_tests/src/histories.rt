@@ -2,7 +2,8 @@
 
 use sample_objects::{one_pair, two_nops};
 use std::test::Fail;
-use verbs_model::{Abstract, CheckFault, Entry, Illegal, RuleName, check_history, start};
+use verbs_model::{Abstract, check_history, start};
+use verbs_types::{CheckFault, Entry, Illegal, RuleName};
 
 #[test]
 fn two_nops_are_legal(rt: HostRuntime) -> Result<(), Fail> {

@@ -5,7 +5,7 @@ use sample_objects::{RECV, SEND, nop_completion, one_pair};
 use std::alloc::{AllocError, Global};
 use std::test::Fail;
 use transcript_text::{print_history, print_trace};
-use verbs_model::{
+use verbs_types::{
     ADAPTER, Body, CONTROL, Completion, Entry, FIRST_QP, Item, Kind, Op, Request, Sequence, Sge,
     What,
 };

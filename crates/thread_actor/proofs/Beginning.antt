@@ -1,7 +1,7 @@
 -- Calls that begin, and calls that go on.
 use Rattle.std.proofs.Common.{◌≡◌, ℕ, zero, suc, ◌<◌, ◌≤◌, arith, refl, sym, ap, ◌∙◌, subst, List, [], ◌∷◌, length, slice_get, Option, None, Some, is_some, unwrap_or}
 use Rattle.std.specs.List.{AllByRecursion}
-use Rattle.verbs_model.specs.declared.request.Item.{Item}
+use Rattle.verbs_types.specs.declared.request.Item.{Item}
 use Rattle.counted_ring.specs.PosterView.{PosterTask}
 use Rattle.provider_post.specs.declared.call.Call as post
 use Rattle.provider_post.specs.Call.{fresh_call}

@@ -5,10 +5,10 @@ use Rattle.std.proofs.lemmas.Bool.{false≢true}
 use Rattle.std.proofs.lemmas.Bool.Decides.{nat_tests}
 use Rattle.bus_core.specs.declared.operation.BusEntry.{BusEntry}
 use Rattle.bus_core.specs.declared.turn.Step.{Step}
-use Rattle.verbs_model.specs.declared.completion.Completion.{Completion}
-use Rattle.verbs_model.specs.declared.declaration.Lines.{Lines}
-use Rattle.verbs_model.specs.declared.declaration.TheConstants.{FIRST_QP}
-use Rattle.verbs_model.specs.Lines.{is_declared, is_among}
+use Rattle.verbs_types.specs.declared.completion.Completion.{Completion}
+use Rattle.verbs_types.specs.declared.declaration.Lines.{Lines}
+use Rattle.verbs_types.specs.declared.declaration.TheConstants.{FIRST_QP}
+use Rattle.verbs_types.specs.Lines.{is_declared, is_among}
 use Rattle.actor_map.specs.Sizes.{words_of}
 use Rattle.owner_ring.specs.Place as ring
 use Rattle.cq_pair.specs.declared.place.CqPlace.{CqPlace}
@@ -22,7 +22,7 @@ use Rattle.provider_poll.specs.declared.answer.PollAnswer.{PollAnswer}
 use Rattle.provider_poll.specs.declared.state.End.{End}
 use Rattle.provider_poll.specs.declared.state.PollState.{PollState}
 use Rattle.provider_poll.specs.declared.state.PollState.TheVariants as states
-use Rattle.provider_poll.specs.declared.turned.Turned.{Turned}
+use Rattle.provider_poll.specs.declared.poll_step.PollStep.{PollStep}
 use Rattle.provider_poll.specs.FollowsRule.{place_of, queue_place}
 use Rattle.provider_poll.specs.Fresh.{poll_place, sender_place, senders, completes_to}
 use Rattle.provider_poll.specs.Poll.{PollView, PollTurn, Turns, RetiresFirst}
@@ -79,11 +79,11 @@ module _ (d : Lines) (cq : ℕ) (placed : ArePlaced) (declared : IsTrue (is_decl
   in_ring : (a : ℕ) → ring.touches (ring_of side.host.place) a ≡ true → a < words_of d
   in_ring a touched = ((placed d (Completions cq) declared lives).inside a (subst (λ (p : CqPlace). ring.touches (ring_of p) a ≡ true) (ap (λ (p : PollPlace). p.cq) is) touched)).1
 
-  retires_in : (new : List SendView) (taken : ℕ) (empty : Option ℕ) (ends : List End) (e : BusEntry) (turned : Turned) → RetiresFirst side.queues new taken empty ends e turned → e.addr < words_of d
+  retires_in : (new : List SendView) (taken : ℕ) (empty : Option ℕ) (ends : List End) (e : BusEntry) (turned : PollStep) → RetiresFirst side.queues new taken empty ends e turned → e.addr < words_of d
   retires_in new taken empty [] e turned t = absurd t
   retires_in new taken empty (first ∷ left) e turned t = in_queue t.before e.addr (is_at first.queue t.before t.within.found) t.queue_turn.retirer.inside
 
-  turns_in : (state : PollState) (new : PollView) (e : BusEntry) (turned : Turned) → Turns state side new e turned → e.addr < words_of d
+  turns_in : (state : PollState) (new : PollView) (e : BusEntry) (turned : PollStep) → Turns state side new e turned → e.addr < words_of d
   turns_in states.Idle new e turned t = absurd t
   turns_in (states.Polling asked ends) new e turned t = in_ring e.addr t.0.host_turn.inside
   turns_in (states.LookingUp asked ends c queue) new e turned t =

@@ -7,10 +7,10 @@ use Rattle.bus_core.specs.declared.operation.BusEntry.{BusEntry}
 use Rattle.bus_core.specs.declared.turn.Note.{Note}
 use Rattle.bus_core.specs.declared.turn.Step.{Step}
 use Rattle.bus_core.specs.declared.turn.Step.TheVariants.{More, Gave, Done}
-use Rattle.verbs_model.specs.declared.completion.Completion.{Completion}
-use Rattle.verbs_model.specs.declared.completion.Queue.TheVariants.{Send}
-use Rattle.verbs_model.specs.declared.entry.What.{What}
-use Rattle.verbs_model.specs.declared.entry.What.TheVariants.{Poll, Retire, Ack}
+use Rattle.verbs_types.specs.declared.completion.Completion.{Completion}
+use Rattle.verbs_types.specs.declared.completion.Queue.TheVariants.{Send}
+use Rattle.verbs_types.specs.declared.entry.What.{What}
+use Rattle.verbs_types.specs.declared.entry.What.TheVariants.{Poll, Retire, Ack}
 use Rattle.cqe_format.specs.declared.completion.Cqe.{Cqe}
 use Rattle.cq_pair.specs.declared.host.CqDone.{CqDone}
 use Rattle.cq_pair.specs.declared.host.CqDone.TheVariants.{Took, Empty, Acked}
@@ -21,19 +21,19 @@ use Rattle.provider_poll.specs.declared.answer.PollAnswer.TheVariants.{Polled}
 use Rattle.provider_poll.specs.declared.state.End.{End}
 use Rattle.provider_poll.specs.declared.state.PollState.{PollState}
 use Rattle.provider_poll.specs.declared.state.PollState.TheVariants as states
-use Rattle.provider_poll.specs.declared.turned.Turned.{Turned}
+use Rattle.provider_poll.specs.declared.poll_step.PollStep.{PollStep}
 use Rattle.provider_poll.specs.Completion.{completion_of}
 use Rattle.provider_poll.specs.Note.{poll_note}
 use Rattle.provider_poll.specs.SendQueue.{SendView}
 use Rattle.provider_poll.specs.Stores.{may_store, from_ready, storing, storing_first}
-use Rattle.provider_poll.specs.Turned.{place_of, with_end, with_none, with_completion, after_look, after_lookup, after_retire, after_ack}
+use Rattle.provider_poll.specs.PollStep.{place_of, with_end, with_none, with_completion, after_look, after_lookup, after_retire, after_ack}
 use Rattle.actor_rules.specs.Polling.{given_with, given_after, is_loading, load_says, took_some}
 use Rattle.thread_actor.specs.Polls.{taken_by, note_at}
 use Rattle.thread_actor.specs.Stands.{IsTaking, IsPolling}
 use Rattle.thread_actor.specs.Turn.{IsNoteOf}
 
 -- by what the operation says, what is left of a poll of at most so many that had given these
-pub record Leaves (most : ℕ) (given : List Completion) (said : Option What) (turned : Turned) : Type 0 where
+pub record Leaves (most : ℕ) (given : List Completion) (said : Option What) (turned : PollStep) : Type 0 where
   pub noted : IsNoteOf said turned.noted
   pub in_drain : IsNoteOf (took_some said) (note_at (taken_by turned.answer) turned.noted)
   pub goes_on : taken_by turned.answer ≡ None → IsPolling most (given_after given turned.answer) turned.state

@@ -9,13 +9,13 @@ use Rattle.bus_core.specs.declared.turn.Note.{Note}
 use Rattle.bus_core.specs.declared.turn.Step.{Step}
 use Rattle.bus_core.specs.declared.turn.Step.TheVariants.{More, Gave, Done}
 use Rattle.bus_core.specs.Mark.{Marked}
-use Rattle.verbs_model.specs.declared.call.Call.{Call}
-use Rattle.verbs_model.specs.declared.call.Call.TheVariants.{Post, Recv, Poll, Drain}
-use Rattle.verbs_model.specs.declared.completion.Completion.{Completion}
-use Rattle.verbs_model.specs.declared.completion.Queue.{Queue}
-use Rattle.verbs_model.specs.declared.completion.Queue.TheVariants as queues
-use Rattle.verbs_model.specs.declared.declaration.Lines.{Lines}
-use Rattle.verbs_model.specs.declared.entry.What.{What}
+use Rattle.verbs_types.specs.declared.call.Call.{Call}
+use Rattle.verbs_types.specs.declared.call.Call.TheVariants.{Post, Recv, Poll, Drain}
+use Rattle.verbs_types.specs.declared.completion.Completion.{Completion}
+use Rattle.verbs_types.specs.declared.completion.Queue.{Queue}
+use Rattle.verbs_types.specs.declared.completion.Queue.TheVariants as queues
+use Rattle.verbs_types.specs.declared.declaration.Lines.{Lines}
+use Rattle.verbs_types.specs.declared.entry.What.{What}
 use Rattle.actor_map.specs.Sizes.{words_of}
 use Rattle.counted_ring.specs.Law.{fresh_poster}
 use Rattle.counted_ring.specs.Poster.{Poster}
@@ -26,13 +26,13 @@ use Rattle.provider_poll.specs.declared.answer.PollAnswer.{PollAnswer}
 use Rattle.provider_poll.specs.declared.answer.PollAnswer.TheVariants.{Polled as TookSoMany}
 use Rattle.provider_poll.specs.declared.state.PollState.{PollState}
 use Rattle.provider_poll.specs.declared.state.PollState.TheVariants as states
-use Rattle.provider_poll.specs.declared.turned.Turned.{Turned}
+use Rattle.provider_poll.specs.declared.poll_step.PollStep.{PollStep}
 use Rattle.provider_poll.specs.FollowsRule as follows
 use Rattle.provider_poll.specs.FollowsRule.{FollowsRule, TurnsFollow}
 use Rattle.provider_poll.specs.Fresh as side
 use Rattle.provider_poll.specs.Poll.{PollView, PollTurn, LiesWithin}
 use Rattle.provider_poll.specs.Rule.{PollPlace, PollRule, PollMark, MayPollSide}
-use Rattle.provider_poll.specs.RuleTurned.{poll_side_turned, after_poll_side}
+use Rattle.provider_poll.specs.RuleStep.{poll_side_step, after_poll_side}
 use Rattle.provider_poll.proofs.Sides.{stays_within}
 use Rattle.actor_rules.specs.Calls.{MayThread, MayCall, after_thread, after_call, thread_says, call_says}
 use Rattle.actor_rules.specs.Family.{put_number}
@@ -135,23 +135,23 @@ module _ (v : ThreadView) (sides : SidesView) (call now : Call) (cq most : ℕ) 
   now_is : follows.rule_of (begun before most) ≡ poll_now (thread_of v) cq most
   now_is = rule_begun before most ∙ sym (ap (λ (r : PollRule). begun_rule r most) polls_was)
 
-  abbrev turned : Turned
-  turned = poll_side_turned (poll_place v.lines cq) (poll_now (thread_of v) cq most) kept_rule.mark e
+  abbrev turned : PollStep
+  turned = poll_side_step (poll_place v.lines cq) (poll_now (thread_of v) cq most) kept_rule.mark e
 
   may_side : MayPollSide (poll_place v.lines cq) (poll_now (thread_of v) cq most) kept_rule.mark e
   may_side = subst (λ (s : PollRule). MayPollSide (poll_place v.lines cq) s kept_rule.mark e) now_is (subst (λ (p : PollPlace). MayPollSide p (follows.rule_of (begun before most)) kept_rule.mark e) place_is kept_rule.may)
 
-  turned_is : poll_side_turned (follows.place_of (begun before most)) (follows.rule_of (begun before most)) kept_rule.mark e ≡ turned
-  turned_is = ap (λ (p : PollPlace). poll_side_turned p (follows.rule_of (begun before most)) kept_rule.mark e) place_is ∙ ap (λ (s : PollRule). poll_side_turned (poll_place v.lines cq) s kept_rule.mark e) now_is
+  turned_is : poll_side_step (follows.place_of (begun before most)) (follows.rule_of (begun before most)) kept_rule.mark e ≡ turned
+  turned_is = ap (λ (p : PollPlace). poll_side_step p (follows.rule_of (begun before most)) kept_rule.mark e) place_is ∙ ap (λ (s : PollRule). poll_side_step (poll_place v.lines cq) s kept_rule.mark e) now_is
 
   rule_is : follows.rule_of after ≡ after_poll_side (poll_place v.lines cq) (poll_now (thread_of v) cq most) kept_rule.mark e
   rule_is = kept_rule.rule ∙ (ap (λ (p : PollPlace). after_poll_side p (follows.rule_of (begun before most)) kept_rule.mark e) place_is ∙ ap (λ (s : PollRule). after_poll_side (poll_place v.lines cq) s kept_rule.mark e) now_is)
 
   answer_is : goes.answer ≡ turned.answer
-  answer_is = kept_rule.answer_is ∙ ap (λ (x : Turned). x.answer) turned_is
+  answer_is = kept_rule.answer_is ∙ ap (λ (x : PollStep). x.answer) turned_is
 
   noted_is : after.noted ≡ turned.noted
-  noted_is = kept_rule.noted ∙ ap (λ (x : Turned). x.noted) turned_is
+  noted_is = kept_rule.noted ∙ ap (λ (x : PollStep). x.noted) turned_is
 
   state_is : after.state ≡ turned.state
   state_is = ap (λ (r : PollRule). r.state) rule_is ∙ state_after (poll_place v.lines cq) (poll_now (thread_of v) cq most) kept_rule.mark e
@@ -164,7 +164,7 @@ module _ (v : ThreadView) (sides : SidesView) (call now : Call) (cq most : ℕ) 
   back = mark_back v.lines cq (poll_now (thread_of v) cq most) e kept_rule.mark may_side
 
   polled_is : polled v.lines (thread_of v) cq most (marked e mark) ≡ turned
-  polled_is = ap (λ (m : PollMark). poll_side_turned (poll_place v.lines cq) (poll_now (thread_of v) cq most) m e) back
+  polled_is = ap (λ (m : PollMark). poll_side_step (poll_place v.lines cq) (poll_now (thread_of v) cq most) m e) back
 
   may_poll : MayPoll v.lines (thread_of v) cq most (marked e mark)
   may_poll = record {
@@ -180,7 +180,7 @@ module _ (v : ThreadView) (sides : SidesView) (call now : Call) (cq most : ℕ) 
       (subst (λ (r : PollRule). IsPolling most v.given (rules.begun most r.state)) (sym polls_was) (begins most v.given before.state kind.some polling)) may_side
 
   says_is : poll_says v.lines (thread_of v) cq most (marked e mark) ≡ said_by v.lines cq most v.given (poll_now (thread_of v) cq most) kept_rule.mark e
-  says_is = ap (λ (x : Turned). if is_loading (poll_now (thread_of v) cq most).state then load_says cq most (given_with v.given x.answer) x.state else store_says mark) polled_is
+  says_is = ap (λ (x : PollStep). if is_loading (poll_now (thread_of v) cq most).state then load_says cq most (given_with v.given x.answer) x.state else store_says mark) polled_is
 
   abbrev after_rule : PollRule
   after_rule = after_poll_side (poll_place v.lines cq) (poll_now (thread_of v) cq most) (poll_mark v.lines cq mark) e
@@ -271,9 +271,9 @@ module _ (v : ThreadView) (sides : SidesView) (call now : Call) (cq most : ℕ) 
       mark = mark;
       may = subst (λ (calls : List Call). MayCall v.lines (thread_of v) v.number calls (marked e mark)) (sym left) (kind.may v.lines (thread_of v) v.number (marked e mark) rest may_poll);
       goes = same_thread (thread_of v') (rules.after_poll v.lines (thread_of v) cq most (marked e mark) next)
-          (calls ∙ ap next (answer_is ∙ sym (ap (λ (x : Turned). x.answer) polled_is)))
+          (calls ∙ ap next (answer_is ∙ sym (ap (λ (x : PollStep). x.answer) polled_is)))
           (posting ∙ sym (ap (posting_in v) left ∙ kind.posting v rest))
-          (given_is ∙ goes.given ∙ ap (given_after v.given) (answer_is ∙ sym (ap (λ (x : Turned). x.answer) polled_is)))
+          (given_is ∙ goes.given ∙ ap (given_after v.given) (answer_is ∙ sym (ap (λ (x : PollStep). x.answer) polled_is)))
           (fun_ext posters_after)
           (fun_ext polls_after)
           ended

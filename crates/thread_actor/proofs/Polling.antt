@@ -7,12 +7,12 @@ use Rattle.std.proofs.lemmas.Bool.Decides.{nat_tests}
 use Rattle.bus_core.specs.declared.operation.BusEntry.{BusEntry}
 use Rattle.bus_core.specs.declared.turn.Step.{Step}
 use Rattle.bus_core.specs.Mark.{Marked}
-use Rattle.verbs_model.specs.declared.completion.Completion.{Completion}
-use Rattle.verbs_model.specs.declared.completion.Queue.TheVariants.{Send}
-use Rattle.verbs_model.specs.declared.declaration.Lines.{Lines}
-use Rattle.verbs_model.specs.declared.declaration.TheConstants.{FIRST_QP}
-use Rattle.verbs_model.specs.declared.entry.What.{What}
-use Rattle.verbs_model.specs.declared.entry.What.TheVariants.{Retire, Ack}
+use Rattle.verbs_types.specs.declared.completion.Completion.{Completion}
+use Rattle.verbs_types.specs.declared.completion.Queue.TheVariants.{Send}
+use Rattle.verbs_types.specs.declared.declaration.Lines.{Lines}
+use Rattle.verbs_types.specs.declared.declaration.TheConstants.{FIRST_QP}
+use Rattle.verbs_types.specs.declared.entry.What.{What}
+use Rattle.verbs_types.specs.declared.entry.What.TheVariants.{Retire, Ack}
 use Rattle.cqe_format.specs.declared.completion.Cqe.{Cqe}
 use Rattle.owner_ring.specs.Consumer.{Consumer, next_index}
 use Rattle.cq_pair.specs.Host.{MayPoll, after_poll, polled}
@@ -27,15 +27,15 @@ use Rattle.provider_poll.specs.declared.answer.PollAnswer.{PollAnswer}
 use Rattle.provider_poll.specs.declared.state.End.{End}
 use Rattle.provider_poll.specs.declared.state.PollState.{PollState}
 use Rattle.provider_poll.specs.declared.state.PollState.TheVariants as states
-use Rattle.provider_poll.specs.declared.turned.Turned.{Turned}
+use Rattle.provider_poll.specs.declared.poll_step.PollStep.{PollStep}
 use Rattle.provider_poll.specs.Fresh.{senders, completes_to}
 use Rattle.provider_poll.specs.FollowsRule as follows
 use Rattle.provider_poll.specs.Poll.{PollView}
 use Rattle.provider_poll.specs.Poll as polls
 use Rattle.provider_poll.specs.Rule.{QueuePlace, PollPlace, PollRule, PollMark, OnHost, OnQueue, MayGoOn, MayPollSide, MayServeIn, MayRetireFirst, queues_at, queues_of}
-use Rattle.provider_poll.specs.RuleTurned.{poll_side_turned, after_poll_side, asked_with, retired_first, retirers_by, retirer_step, host_step, seen_by}
+use Rattle.provider_poll.specs.RuleStep.{poll_side_step, after_poll_side, asked_with, retired_first, retirers_by, retirer_step, host_step, seen_by}
 use Rattle.provider_poll.specs.SendQueue.{SendView}
-use Rattle.provider_poll.specs.Turned.{after_retire, after_ack}
+use Rattle.provider_poll.specs.PollStep.{after_retire, after_ack}
 use Rattle.provider_poll.specs.Turns.{acked_index}
 use Rattle.actor_rules.specs.Polling as rules
 use Rattle.actor_rules.specs.Polling.{place_in, poll_mark, IsOnPolled, given_with, is_loading, load_says, store_says}
@@ -140,7 +140,7 @@ module _ (d : Lines) (cq : ℕ) (s : PollRule) (e : BusEntry) where
 -- what the operation says, by its mark
 abbrev pub said_by : Lines → (cq most : ℕ) → List Completion → PollRule → PollMark → BusEntry → Option What
 said_by d cq most given s mark e =
-    if is_loading s.state then load_says cq most (given_with given (poll_side_turned (poll_place d cq) s mark e).answer) (poll_side_turned (poll_place d cq) s mark e).state
+    if is_loading s.state then load_says cq most (given_with given (poll_side_step (poll_place d cq) s mark e).answer) (poll_side_step (poll_place d cq) s mark e).state
     else store_says (to_mark d cq mark)
 
 module _ (d : Lines) (cq most : ℕ) (given : List Completion) (host : Consumer) (seen : ℕ) (retirers : List Retirer) (e : BusEntry) where
@@ -162,7 +162,7 @@ module _ (d : Lines) (cq most : ℕ) (given : List Completion) (host : Consumer)
 
   -- by how far the poll has come
   pub leaves : (state : PollState) (mark : PollMark) → IsPolling most given state → MayGoOn state (poll_place d cq) (with_state state) mark e
-      → Leaves most given (said_by d cq most given (with_state state) mark e) (poll_side_turned (poll_place d cq) (with_state state) mark e)
+      → Leaves most given (said_by d cq most given (with_state state) mark e) (poll_side_step (poll_place d cq) (with_state state) mark e)
   leaves states.Idle (OnHost mark) polling may = absurd may
   leaves states.Idle (OnQueue index mark) polling may = absurd may
   leaves (states.Polling asked ends) (OnHost mark) polling may =
@@ -189,7 +189,7 @@ module _ (d : Lines) (cq most : ℕ) (given : List Completion) (host : Consumer)
   leaves (states.Acking taken empty) (OnQueue index mark) polling may = absurd may
 
 -- the host and the poll after an operation
-pub state_after : (place : PollPlace) (s : PollRule) (mark : PollMark) (e : BusEntry) → (after_poll_side place s mark e).state ≡ (poll_side_turned place s mark e).state
+pub state_after : (place : PollPlace) (s : PollRule) (mark : PollMark) (e : BusEntry) → (after_poll_side place s mark e).state ≡ (poll_side_step place s mark e).state
 state_after place s (OnHost mark) e = refl
 state_after place s (OnQueue index mark) e = refl
 

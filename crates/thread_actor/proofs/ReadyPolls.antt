@@ -2,9 +2,9 @@
 use Rattle.std.proofs.Common.{◌≡◌, ℕ, ◌+◌, ◌-◌, ◌≤◌, ◌<◌, ◌^◌, arith, refl, sym, ap, ◌∙◌, subst, List, [], ◌∷◌, length, drop, slice_get, Option, None, Some, All}
 use Rattle.std.proofs.lemmas.List.Elements.{All-weaker}
 use Rattle.bus_core.specs.Port.{Port, HasRoom}
-use Rattle.verbs_model.specs.declared.call.Call.{Call}
-use Rattle.verbs_model.specs.declared.call.Call.TheVariants.{Poll, Drain}
-use Rattle.verbs_model.specs.declared.completion.Completion.{Completion}
+use Rattle.verbs_types.specs.declared.call.Call.{Call}
+use Rattle.verbs_types.specs.declared.call.Call.TheVariants.{Poll, Drain}
+use Rattle.verbs_types.specs.declared.completion.Completion.{Completion}
 use Rattle.actor_map.specs.Sizes.{words_of}
 use Rattle.counted_ring.specs.declared.place.WqPlace.{WqPlace}
 use Rattle.object_places.specs.Places.{IsWithin}

@@ -1,8 +1,8 @@
 -- A thread before the first of its calls.
 use Rattle.std.specs.Prelude.{ℕ, ◌≡◌, ◌+◌, ◌<◌, ◌≤◌, ◌^◌, false, List, [], length, None}
 use Rattle.std.specs.List.{AllByRecursion}
-use Rattle.verbs_model.specs.declared.call.Call.{Call}
-use Rattle.verbs_model.specs.declared.declaration.Lines.{Lines}
+use Rattle.verbs_types.specs.declared.call.Call.{Call}
+use Rattle.verbs_types.specs.declared.declaration.Lines.{Lines}
 use Rattle.counted_ring.specs.Law.{fresh_poster}
 use Rattle.actor_rules.specs.Thread.{Thread, queue_start, fresh_poll}
 use Rattle.thread_actor.specs.Calls.{CanCall}

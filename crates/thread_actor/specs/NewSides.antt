@@ -1,9 +1,9 @@
 -- The sides of a thread that has done nothing yet.
 use Rattle.std.specs.Prelude.{ℕ, ◌≡◌, length, IsSome, IsTrue}
-use Rattle.verbs_model.specs.declared.completion.Queue.{Queue}
-use Rattle.verbs_model.specs.declared.declaration.Lines.{Lines}
-use Rattle.verbs_model.specs.declared.call.Call.{Call}
-use Rattle.verbs_model.specs.Lines.{is_declared}
+use Rattle.verbs_types.specs.declared.completion.Queue.{Queue}
+use Rattle.verbs_types.specs.declared.declaration.Lines.{Lines}
+use Rattle.verbs_types.specs.declared.call.Call.{Call}
+use Rattle.verbs_types.specs.Lines.{is_declared}
 use Rattle.actor_map.specs.Sizes.{words_of}
 use Rattle.object_places.specs.Places.{IsWithin}
 use Rattle.provider_post.specs.Side.{PostView, fresh_view}

@@ -5,7 +5,7 @@ use Rattle.bus_core.specs.declared.turn.Note.{Note}
 use Rattle.bus_core.specs.declared.turn.Step.{Step}
 use Rattle.bus_core.specs.declared.turn.Step.TheVariants.{More, Gave, Done}
 use Rattle.bus_core.specs.Port.{Port}
-use Rattle.verbs_model.specs.declared.completion.Completion.{Completion}
+use Rattle.verbs_types.specs.declared.completion.Completion.{Completion}
 use Rattle.owner_ring.specs.Consumer.{next_index}
 use Rattle.provider_poll.specs.declared.answer.PollAnswer.{PollAnswer}
 use Rattle.provider_poll.specs.declared.answer.PollAnswer.TheVariants.{Polled as TookSoMany}

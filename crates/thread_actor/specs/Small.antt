@@ -1,6 +1,6 @@
 -- Counts and indices of a thread, which rise.
 use Rattle.std.specs.Prelude.{ℕ, ◌^◌, ◌<◌}
-use Rattle.verbs_model.specs.declared.completion.Queue.{Queue}
+use Rattle.verbs_types.specs.declared.completion.Queue.{Queue}
 use Rattle.owner_ring.specs.Consumer.{Consumer, Waiting, Reading}
 use Rattle.counted_ring.specs.Poster.{Poster}
 use Rattle.actor_rules.specs.Thread.{Thread}

@@ -3,7 +3,7 @@ use Rattle.std.specs.Prelude.{ℕ, ◌≡◌, ◌+◌, ◌<◌, Option, None, So
 use Rattle.bus_core.specs.declared.operation.BusEntry.{BusEntry}
 use Rattle.bus_core.specs.declared.turn.Note.{Note}
 use Rattle.bus_core.specs.Mark.{Marked}
-use Rattle.verbs_model.specs.declared.entry.What.{What}
+use Rattle.verbs_types.specs.declared.entry.What.{What}
 use Rattle.actor_map.specs.Notes.{note_of}
 use Rattle.actor_map.specs.Sizes.{words_of}
 use Rattle.object_places.specs.Objects.{Mark}

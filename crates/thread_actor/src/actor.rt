@@ -9,7 +9,7 @@ use actor_map::{Actor, AddressMap};
 use bus_core::{BusPort, Note};
 use std::alloc::Global;
 use std::marker::Model;
-use verbs_model::{Call, Declared, NoMemory, Sequence};
+use verbs_types::{Call, Declared, NoMemory, Sequence};
 
 /// A thread of a scenario.
 #[derive(Drop)]

@@ -7,7 +7,7 @@ use bus_core::Step;
 use provider_poll::PollAnswer;
 use std::alloc::Global;
 use std::marker::Model;
-use verbs_model::{Completion, NoMemory};
+use verbs_types::{Completion, NoMemory};
 
 /// The completions that the poll under way has given, in order: no more than the 16 that a poll may take.
 #[derive(Drop)]
@@ -17,7 +17,7 @@ pub(crate) struct Given {
 
 impl Model for Given {
     ghost use Rattle.std.specs.Prelude.{List};
-    ghost use Rattle.verbs_model.specs.declared.completion.Completion.{Completion};
+    ghost use Rattle.verbs_types.specs.declared.completion.Completion.{Completion};
 
     ghost Value = { List Completion };
 

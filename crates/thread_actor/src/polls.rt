@@ -9,7 +9,7 @@ ghost use Rattle.thread_actor.specs.Polls as words;
 use crate::given::Given;
 use bus_core::{BusPort, Note, Step};
 use provider_poll::{PollAnswer, PollSide};
-use verbs_model::Completion;
+use verbs_types::Completion;
 
 /// What an operation of a poll came to.
 #[derive(Clone, Copy)]

@@ -3,12 +3,12 @@ ghost use Rattle.std.specs.Prelude.{◌≡◌, map, None};
 ghost use Rattle.bus_core.specs.Port.{Appends};
 ghost use Rattle.bus_core.specs.declared.operation.BusEntry.{BusEntry};
 ghost use Rattle.counted_ring.specs.Turn.{CanServe};
-ghost use Rattle.verbs_model.specs.declared.request.Item.TheVariants.{Request as TheRequest, Receive as TheReceive};
+ghost use Rattle.verbs_types.specs.declared.request.Item.TheVariants.{Request as TheRequest, Receive as TheReceive};
 ghost use Rattle.thread_actor.specs.Posts.{MayGoOn, GoesOn, Ready, CanServeAt, Posts, CanBegin, begun};
 
 use bus_core::{BusPort, Note};
 use provider_post::{PostSide, RecvSide};
-use verbs_model::{Receive, Request};
+use verbs_types::{Receive, Request};
 
 /// What an operation of a post came to.
 #[derive(Clone, Copy)]

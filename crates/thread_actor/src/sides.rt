@@ -1,9 +1,9 @@
 //! The sides of a thread.
 ghost use Rattle.std.specs.Prelude.{◌≡◌, ◌≤◌, ◌-◌, ◌^◌, IsTrue, IfOk, OnOk, None, length, replicate};
 ghost use Rattle.std.specs.List.{AllByRecursion};
-ghost use Rattle.verbs_model.specs.declared.completion.Queue.TheVariants.{Send, Recv};
-ghost use Rattle.verbs_model.specs.Lines.{is_among};
-ghost use Rattle.verbs_model.specs.declared.declaration.TheConstants.{FIRST_QP};
+ghost use Rattle.verbs_types.specs.declared.completion.Queue.TheVariants.{Send, Recv};
+ghost use Rattle.verbs_types.specs.Lines.{is_among};
+ghost use Rattle.verbs_types.specs.declared.declaration.TheConstants.{FIRST_QP};
 ghost use Rattle.actor_map.specs.Map.{map_of};
 ghost use Rattle.actor_map.specs.Sizes.{words_of};
 ghost use Rattle.thread_actor.specs.Calls.{CanCall};
@@ -15,7 +15,7 @@ use actor_map::AddressMap;
 use provider_poll::PollSide;
 use provider_post::{PostSide, RecvSide};
 use std::alloc::Global;
-use verbs_model::{Call, Declared, FIRST_QP, NoMemory};
+use verbs_types::{Call, Declared, FIRST_QP, NoMemory};
 
 /// The sides of a thread, by place: of the send and the receive queue of each queue pair, and of each completion
 /// queue. There are those that its calls name.

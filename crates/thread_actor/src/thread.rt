@@ -22,7 +22,7 @@ use object_places::laws::places;
 use provider_poll::laws::turns_follow;
 use std::alloc::Global;
 use std::snapshot::Snapshot;
-use verbs_model::{Call, Declared, NoMemory, Sequence};
+use verbs_types::{Call, Declared, NoMemory, Sequence};
 
 /// A thread between two operations.
 #[derive(Drop)]

@@ -2,11 +2,11 @@
 use Rattle.std.proofs.Common.{◌≡◌, ℕ, ◌+◌, ◌≤◌, Bool, ◌&&◌, eqb, List, [], ◌∷◌, length, All, IsTrue, arith}
 use Rattle.std.proofs.lemmas.Bool.{and_parts, eqb-true}
 use Rattle.std.proofs.lemmas.List.Elements.{All-nil, All-cons}
-use Rattle.verbs_model.specs.Lines.{is_declared, are_in_turn, is_among}
-use Rattle.verbs_model.specs.declared.declaration.Lines.{Lines}
-use Rattle.verbs_model.specs.declared.declaration.Object.{Object}
-use Rattle.verbs_model.specs.declared.declaration.Object.TheVariants.{Eq, Pd, Cq, Qp}
-use Rattle.verbs_model.specs.declared.declaration.TheConstants.{FIRST_PD, FIRST_QP}
+use Rattle.verbs_types.specs.Lines.{is_declared, are_in_turn, is_among}
+use Rattle.verbs_types.specs.declared.declaration.Lines.{Lines}
+use Rattle.verbs_types.specs.declared.declaration.Object.{Object}
+use Rattle.verbs_types.specs.declared.declaration.Object.TheVariants.{Eq, Pd, Cq, Qp}
+use Rattle.verbs_types.specs.declared.declaration.TheConstants.{FIRST_PD, FIRST_QP}
 use Rattle.transcript_text.specs.Numbers.{IsObject}
 
 -- the next numbers of the kinds are not past the declared ones

@@ -1,16 +1,16 @@
 -- The texts of commands and their answers, field by field.
 use Rattle.std.specs.Prelude.{ℕ, Bool, ◌||◌, List, [], ◌∷◌, ◌++◌, codes, decimal, Option, None, Some}
-use Rattle.verbs_model.specs.declared.command.PageUse.{PageUse}
-use Rattle.verbs_model.specs.declared.command.PageUse.TheVariants.{Boot, Init as InitPages}
-use Rattle.verbs_model.specs.declared.command.Rights.{Rights}
-use Rattle.verbs_model.specs.declared.command.Region.{Region}
-use Rattle.verbs_model.specs.declared.command.HistoryCommand.{HistoryCommand}
-use Rattle.verbs_model.specs.declared.command.HistoryCommand.TheVariants.{Enable, Disable, QueryPages, GivePages, ReturnPages, Init, Teardown, Make, AllocUar, MakeKey, DestroyKey, RstToInit, InitToRtr, RtrToRts, ToErr, Modify, Destroy, DeallocUar}
-use Rattle.verbs_model.specs.declared.command.Answer.{Answer}
-use Rattle.verbs_model.specs.declared.command.Answer.TheVariants.{Status, Delivery}
-use Rattle.verbs_model.specs.declared.declaration.Object.{Object}
-use Rattle.verbs_model.specs.declared.declaration.Object.TheVariants.{Eq, Pd, Cq, Qp}
-use Rattle.verbs_model.specs.declared.declaration.Lines.{Lines}
+use Rattle.verbs_types.specs.declared.command.PageUse.{PageUse}
+use Rattle.verbs_types.specs.declared.command.PageUse.TheVariants.{Boot, Init as InitPages}
+use Rattle.verbs_types.specs.declared.command.Rights.{Rights}
+use Rattle.verbs_types.specs.declared.command.Region.{Region}
+use Rattle.verbs_types.specs.declared.command.HistoryCommand.{HistoryCommand}
+use Rattle.verbs_types.specs.declared.command.HistoryCommand.TheVariants.{Enable, Disable, QueryPages, GivePages, ReturnPages, Init, Teardown, Make, AllocUar, MakeKey, DestroyKey, RstToInit, InitToRtr, RtrToRts, ToErr, Modify, Destroy, DeallocUar}
+use Rattle.verbs_types.specs.declared.command.Answer.{Answer}
+use Rattle.verbs_types.specs.declared.command.Answer.TheVariants.{Status, Delivery}
+use Rattle.verbs_types.specs.declared.declaration.Object.{Object}
+use Rattle.verbs_types.specs.declared.declaration.Object.TheVariants.{Eq, Pd, Cq, Qp}
+use Rattle.verbs_types.specs.declared.declaration.Lines.{Lines}
 use Rattle.scenario_text.specs.Heads.{eq_name, pd_name, cq_name, qp_name}
 use Rattle.scenario_text.specs.Requests.{hex, letter, or_dash}
 

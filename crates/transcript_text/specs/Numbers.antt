@@ -1,21 +1,21 @@
 -- Which numbers in a history are those of declared things.
 use Rattle.std.specs.Prelude.{ℕ, ◌≡◌, ◌⊎◌, IsTrue, length, All, IfSome}
-use Rattle.verbs_model.specs.Lines.{is_among}
-use Rattle.verbs_model.specs.declared.completion.Queue.{Queue}
-use Rattle.verbs_model.specs.declared.completion.Queue.TheVariants.{Send, Recv, Shared}
-use Rattle.verbs_model.specs.declared.completion.Completion.{Completion}
-use Rattle.verbs_model.specs.declared.completion.EventRecord.{EventRecord}
-use Rattle.verbs_model.specs.declared.completion.EventRecord.TheVariants.{Completion as OfCompletion, CqError}
-use Rattle.verbs_model.specs.declared.command.HistoryCommand.{HistoryCommand}
-use Rattle.verbs_model.specs.declared.command.HistoryCommand.TheVariants.{Make, MakeKey, RstToInit, InitToRtr, RtrToRts, ToErr, Modify, Destroy}
-use Rattle.verbs_model.specs.declared.declaration.Object.{Object}
-use Rattle.verbs_model.specs.declared.declaration.Object.TheVariants.{Eq, Pd, Cq, Qp}
-use Rattle.verbs_model.specs.declared.declaration.Lines.{Lines}
-use Rattle.verbs_model.specs.declared.declaration.TheConstants.{FIRST_PD, FIRST_QP}
-use Rattle.verbs_model.specs.declared.entry.Entry.{Entry}
-use Rattle.verbs_model.specs.declared.entry.What.{What}
-use Rattle.verbs_model.specs.declared.entry.What.TheVariants.{Post, PostFull, Poll, Retire, Free, Ack, Arm, TakeEvent, Submit, Reply, ReadByte, WriteByte, Clean, Fetch, TakeReceive, GetByte, PutByte, Publish, SeeArm, Event, Overrun, Lost, Execute}
-use Rattle.verbs_model.specs.declared.entry.TheConstants.{ADAPTER, CONTROL}
+use Rattle.verbs_types.specs.Lines.{is_among}
+use Rattle.verbs_types.specs.declared.completion.Queue.{Queue}
+use Rattle.verbs_types.specs.declared.completion.Queue.TheVariants.{Send, Recv, Shared}
+use Rattle.verbs_types.specs.declared.completion.Completion.{Completion}
+use Rattle.verbs_types.specs.declared.completion.EventRecord.{EventRecord}
+use Rattle.verbs_types.specs.declared.completion.EventRecord.TheVariants.{Completion as OfCompletion, CqError}
+use Rattle.verbs_types.specs.declared.command.HistoryCommand.{HistoryCommand}
+use Rattle.verbs_types.specs.declared.command.HistoryCommand.TheVariants.{Make, MakeKey, RstToInit, InitToRtr, RtrToRts, ToErr, Modify, Destroy}
+use Rattle.verbs_types.specs.declared.declaration.Object.{Object}
+use Rattle.verbs_types.specs.declared.declaration.Object.TheVariants.{Eq, Pd, Cq, Qp}
+use Rattle.verbs_types.specs.declared.declaration.Lines.{Lines}
+use Rattle.verbs_types.specs.declared.declaration.TheConstants.{FIRST_PD, FIRST_QP}
+use Rattle.verbs_types.specs.declared.entry.Entry.{Entry}
+use Rattle.verbs_types.specs.declared.entry.What.{What}
+use Rattle.verbs_types.specs.declared.entry.What.TheVariants.{Post, PostFull, Poll, Retire, Free, Ack, Arm, TakeEvent, Submit, Reply, ReadByte, WriteByte, Clean, Fetch, TakeReceive, GetByte, PutByte, Publish, SeeArm, Event, Overrun, Lost, Execute}
+use Rattle.verbs_types.specs.declared.entry.TheConstants.{ADAPTER, CONTROL}
 
 abbrev pub IsEq : Lines → ℕ → Type 0
 IsEq d n = IsTrue (is_among 0 (length d.eqs) n)

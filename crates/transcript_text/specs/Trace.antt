@@ -5,7 +5,7 @@ use Rattle.bus_core.specs.declared.operation.BusEntry.{BusEntry}
 use Rattle.bus_core.specs.declared.operation.BusOp.{BusOp}
 use Rattle.bus_core.specs.declared.operation.BusOp.TheVariants.{Load, Store, SetBits, Swap}
 use Rattle.bus_core.specs.Operation.{loaded}
-use Rattle.verbs_model.specs.declared.declaration.Lines.{Lines}
+use Rattle.verbs_types.specs.declared.declaration.Lines.{Lines}
 use Rattle.scenario_text.specs.Requests.{line, hex}
 use Rattle.transcript_text.specs.Numbers.{IsActor}
 use Rattle.transcript_text.specs.History.{actor_name, end_text}

@@ -4,7 +4,7 @@ ghost use Rattle.transcript_text.specs.Fields.{spaced};
 ghost use Rattle.transcript_text.specs.History as texts;
 
 use crate::writer::TextWriter;
-use verbs_model::NoMemory;
+use verbs_types::NoMemory;
 
 /// Adds a word, and then an address and the byte there.
 pub(crate) fn put_byte_row(

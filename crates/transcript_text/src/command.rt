@@ -8,7 +8,7 @@ ghost use Rattle.transcript_text.specs.Numbers.{CommandNames, IsCq, IsObject, Is
 use crate::key::{put_destroy_key, put_make_key};
 use crate::names::{cq_name, object_name, qp_name};
 use crate::writer::TextWriter;
-use verbs_model::{HistoryCommand, Lines, NoMemory, Object, PageUse};
+use verbs_types::{HistoryCommand, Lines, NoMemory, Object, PageUse};
 
 /// Adds the fields of a command.
 pub(crate) fn put_command(

@@ -1,6 +1,6 @@
 //! What an entry says of a command.
 ghost use Rattle.std.specs.Prelude.{◌≡◌, ◌++◌, OnOk};
-ghost use Rattle.verbs_model.specs.declared.entry.What.TheVariants as what;
+ghost use Rattle.verbs_types.specs.declared.entry.What.TheVariants as what;
 ghost use Rattle.transcript_text.specs.Commands as texts;
 ghost use Rattle.transcript_text.specs.Numbers.{CommandNames, IsActor};
 ghost use Rattle.transcript_text.specs.Fields.{spaced, row_text};
@@ -8,7 +8,7 @@ ghost use Rattle.transcript_text.specs.Fields.{spaced, row_text};
 use crate::command::put_command;
 use crate::names::actor_name;
 use crate::writer::TextWriter;
-use verbs_model::{Answer, HistoryCommand, Lines, NoMemory};
+use verbs_types::{Answer, HistoryCommand, Lines, NoMemory};
 
 pub(crate) fn put_submit(
     out: &mut TextWriter,

@@ -5,7 +5,7 @@ ghost use Rattle.transcript_text.specs.History as texts;
 
 use crate::names::{qp_name, srq_name};
 use crate::writer::TextWriter;
-use verbs_model::{Completion, Kind, Lines, NoMemory, Queue};
+use verbs_types::{Completion, Kind, Lines, NoMemory, Queue};
 
 /// Adds a space and the name of a queue.
 pub(crate) fn put_queue(out: &mut TextWriter, lines: &Lines, queue: Queue) -> Result<(), NoMemory>

@@ -1,6 +1,6 @@
 //! What an entry says of a completion queue.
 ghost use Rattle.std.specs.Prelude.{◌≡◌, ◌++◌, map, All, OnOk};
-ghost use Rattle.verbs_model.specs.declared.entry.What.TheVariants as what;
+ghost use Rattle.verbs_types.specs.declared.entry.What.TheVariants as what;
 ghost use Rattle.transcript_text.specs.Numbers.{IsCq, IsQp, IsCompletion};
 ghost use Rattle.transcript_text.specs.Fields.{spaced, row_text};
 ghost use Rattle.transcript_text.specs.History as texts;
@@ -8,7 +8,7 @@ ghost use Rattle.transcript_text.specs.History as texts;
 use crate::completion::put_completion;
 use crate::names::{cq_name, qp_name};
 use crate::writer::TextWriter;
-use verbs_model::{Completion, Lines, NoMemory};
+use verbs_types::{Completion, Lines, NoMemory};
 
 pub(crate) fn put_poll(
     out: &mut TextWriter,

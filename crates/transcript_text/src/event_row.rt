@@ -1,13 +1,13 @@
 //! What an entry says of an arm or an event.
 ghost use Rattle.std.specs.Prelude.{◌≡◌, ◌∷◌, ◌++◌, IfSome, OnOk};
-ghost use Rattle.verbs_model.specs.declared.entry.What.TheVariants as what;
+ghost use Rattle.verbs_types.specs.declared.entry.What.TheVariants as what;
 ghost use Rattle.transcript_text.specs.Numbers.{IsCq, IsEq, IsEvent};
 ghost use Rattle.transcript_text.specs.Fields.{spaced, row_text};
 ghost use Rattle.transcript_text.specs.History as texts;
 
 use crate::names::{cq_name, eq_name};
 use crate::writer::TextWriter;
-use verbs_model::{ArmKind, EventRecord, Lines, NoMemory};
+use verbs_types::{ArmKind, EventRecord, Lines, NoMemory};
 
 /// Adds a word, and then the arm of a completion queue.
 pub(crate) fn put_arm(

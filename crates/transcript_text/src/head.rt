@@ -1,14 +1,14 @@
 //! The declaration and connect lines.
 ghost use Rattle.std.specs.Prelude.{◌≡◌, ◌++◌, IsTrue, OnOk};
 ghost use Rattle.std.specs.List.{flat_map};
-ghost use Rattle.verbs_model.specs.Lines.{is_declared, is_cq_line, is_qp_line, is_connect_line};
+ghost use Rattle.verbs_types.specs.Lines.{is_declared, is_cq_line, is_qp_line, is_connect_line};
 ghost use Rattle.scenario_text.specs.Heads as heads;
 ghost use Rattle.transcript_text.specs.Fields.{spaced, qp_names, qp_sizes};
 ghost use Rattle.transcript_text.specs.Numbers.{IsObject};
 
 use crate::names::{cq_name, eq_name, pd_name, qp_name};
 use crate::writer::TextWriter;
-use verbs_model::{
+use verbs_types::{
     Connect, CqLine, Declared, EqLine, FIRST_PD, FIRST_QP, Lines, NoMemory, Object, PdLine, QpLine,
 };
 

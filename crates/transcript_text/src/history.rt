@@ -9,7 +9,7 @@ use crate::names::actor_name;
 use crate::row::put_what;
 use crate::writer::TextWriter;
 use std::alloc::Global;
-use verbs_model::{Declared, Entry, Lines, NoMemory};
+use verbs_types::{Declared, Entry, Lines, NoMemory};
 
 /// Prints a history, in this project's own form: a title, the declaration and connect lines, a line
 /// an entry, and the count of entries. The only error is that memory ran out.

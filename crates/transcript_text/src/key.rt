@@ -7,7 +7,7 @@ ghost use Rattle.transcript_text.specs.Numbers.{IsPd};
 
 use crate::names::pd_name;
 use crate::writer::TextWriter;
-use verbs_model::{Lines, NoMemory, Region, Rights};
+use verbs_types::{Lines, NoMemory, Region, Rights};
 
 pub(crate) fn put_make_key(
     out: &mut TextWriter,

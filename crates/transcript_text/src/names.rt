@@ -5,7 +5,7 @@ ghost use Rattle.transcript_text.specs.Commands as commands;
 ghost use Rattle.transcript_text.specs.Numbers.{IsEq, IsPd, IsCq, IsQp, IsObject, IsActor};
 ghost use Rattle.transcript_text.specs.History as texts;
 
-use verbs_model::{ADAPTER, CONTROL, FIRST_PD, FIRST_QP, Lines, Object};
+use verbs_types::{ADAPTER, CONTROL, FIRST_PD, FIRST_QP, Lines, Object};
 
 pub(crate) fn eq_name(lines: &Lines, eq: u32) -> &[u8]
     requires { IsEq lines.now eq }

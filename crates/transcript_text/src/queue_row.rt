@@ -1,6 +1,6 @@
 //! What an entry says of a work queue.
 ghost use Rattle.std.specs.Prelude.{◌≡◌, ◌++◌, OnOk};
-ghost use Rattle.verbs_model.specs.declared.entry.What.TheVariants as what;
+ghost use Rattle.verbs_types.specs.declared.entry.What.TheVariants as what;
 ghost use Rattle.transcript_text.specs.Numbers.{IsQueue};
 ghost use Rattle.transcript_text.specs.Fields.{row_text};
 
@@ -8,7 +8,7 @@ use crate::completion::put_queue;
 use crate::names::srq_name;
 use crate::request::put_items;
 use crate::writer::TextWriter;
-use verbs_model::{Item, Lines, NoMemory, Queue};
+use verbs_types::{Item, Lines, NoMemory, Queue};
 
 pub(crate) fn put_post(
     out: &mut TextWriter,

@@ -5,7 +5,7 @@ ghost use Rattle.scenario_text.specs.Requests as texts;
 ghost use Rattle.transcript_text.specs.Fields.{spaced};
 
 use crate::writer::TextWriter;
-use verbs_model::{Body, Item, NoMemory, Op, Receive, Request, Sge};
+use verbs_types::{Body, Item, NoMemory, Op, Receive, Request, Sge};
 
 /// Adds the items in order, each as in a scenario, from its `+` on.
 pub(crate) fn put_items(out: &mut TextWriter, items: &[Item]) -> Result<(), NoMemory>

@@ -9,7 +9,7 @@ use crate::completion_row::{put_ack, put_clean, put_lost, put_overrun, put_poll,
 use crate::event_row::{put_arm, put_notify, put_take_event};
 use crate::queue_row::{put_fetch, put_free, put_full, put_post, put_retire, put_take};
 use crate::writer::TextWriter;
-use verbs_model::{Lines, NoMemory, What};
+use verbs_types::{Lines, NoMemory, What};
 
 /// Adds the fields of a line after its actor.
 pub(crate) fn put_what(out: &mut TextWriter, lines: &Lines, what: &What) -> Result<(), NoMemory>

@@ -9,7 +9,7 @@ use crate::trace::{put_trace, room};
 use crate::writer::TextWriter;
 use bus_core::BusEntry;
 use std::alloc::Global;
-use verbs_model::{Declared, Entry, NoMemory};
+use verbs_types::{Declared, Entry, NoMemory};
 
 /// About as many bytes as an entry of a history has.
 const ENTRY: usize = 64;

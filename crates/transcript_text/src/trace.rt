@@ -9,7 +9,7 @@ use crate::names::actor_name;
 use crate::writer::TextWriter;
 use bus_core::{BusEntry, BusOp};
 use std::alloc::Global;
-use verbs_model::{Declared, Lines, NoMemory};
+use verbs_types::{Declared, Lines, NoMemory};
 
 /// The most bytes of the title and of the last line.
 const FRAME: usize = 36;

@@ -5,7 +5,7 @@ ghost use Rattle.scenario_text.specs.Requests.{hex, hex_digit};
 use itoa::Buffer;
 use std::alloc::Global;
 use std::marker::Model;
-use verbs_model::NoMemory;
+use verbs_types::NoMemory;
 
 /// A text to which pieces are added at its end. After an error it may have a part of the piece.
 #[derive(Debug, Drop)]

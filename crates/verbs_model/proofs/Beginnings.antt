@@ -5,19 +5,19 @@ use Rattle.std.specs.Option.{option_map_or}
 use Rattle.std.proofs.lemmas.Bool.{cases_Bool, cond-true, cond-false}
 use Rattle.std.proofs.lemmas.List.{length-map}
 use Rattle.std.proofs.lemmas.List.FromFn.{length-enumerate_from}
-use Rattle.verbs_model.specs.declared.completion.Queue.{Queue}
-use Rattle.verbs_model.specs.declared.completion.Queue.TheVariants.{Send, Recv, Shared}
-use Rattle.verbs_model.specs.declared.declaration.Lines.{Lines}
-use Rattle.verbs_model.specs.declared.declaration.QpLine.{QpLine}
-use Rattle.verbs_model.specs.declared.declaration.CqLine.{CqLine}
-use Rattle.verbs_model.specs.declared.declaration.TheConstants.{FIRST_QP}
-use Rattle.verbs_model.specs.declared.state.QueuePair.{QueuePair}
+use Rattle.verbs_types.specs.declared.completion.Queue.{Queue}
+use Rattle.verbs_types.specs.declared.completion.Queue.TheVariants.{Send, Recv, Shared}
+use Rattle.verbs_types.specs.declared.declaration.Lines.{Lines}
+use Rattle.verbs_types.specs.declared.declaration.QpLine.{QpLine}
+use Rattle.verbs_types.specs.declared.declaration.CqLine.{CqLine}
+use Rattle.verbs_types.specs.declared.declaration.TheConstants.{FIRST_QP}
+use Rattle.verbs_types.specs.declared.state.QueuePair.{QueuePair}
 use Rattle.verbs_model.specs.Beginning.{both_queues, pair_from}
-use Rattle.verbs_model.specs.Lines.{is_among}
-use Rattle.verbs_model.specs.Start.{start, start_queue, start_pair, fresh_queue, fresh_completions, first_state, no_queue, no_pair, no_completions}
-use Rattle.verbs_model.specs.State.{WorkQueue}
+use Rattle.verbs_types.specs.Lines.{is_among}
+use Rattle.verbs_rules.specs.Start.{start, start_queue, start_pair, fresh_queue, fresh_completions, first_state, no_queue, no_pair, no_completions}
+use Rattle.verbs_rules.specs.State.{WorkQueue}
 use Rattle.verbs_model.specs.Tables.{Tables, queue_at, pair_at, completions_at, pair_is_in, completions_are_in, state_of}
-use Rattle.verbs_model.proofs.Families.{among}
+use Rattle.verbs_laws.proofs.Families.{among}
 
 pub length-both_queues : (ls : List QpLine) → length (flat_map both_queues ls) ≡ 2 * length ls
 length-both_queues [] = refl

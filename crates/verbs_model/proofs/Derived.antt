@@ -2,16 +2,16 @@
 use Rattle.std.proofs.Common.{◌≡◌, refl, Bool, true, false, ◌&&◌, ℕ, ◌==◌, Option, Some, None, rules}
 use mathlib.Core.Bool.{beq}
 use denote.Builtin.{u32}
-use Rattle.verbs_model.specs.declared.completion.Completion.{Completion}
-use Rattle.verbs_model.specs.declared.completion.Kind.{Kind}
-use Rattle.verbs_model.specs.declared.completion.Queue.{Queue}
-use Rattle.verbs_model.specs.declared.completion.Queue.TheVariants.{Send, Recv, Shared}
-use Rattle.verbs_model.specs.contracts.completion.CompletionPartialEq.TheImpl as completions
-use Rattle.verbs_model.specs.contracts.completion.QueuePartialEq.TheImpl as queues
-use Rattle.verbs_model.specs.contracts.completion.KindPartialEq.TheImpl as kinds
+use Rattle.verbs_types.specs.declared.completion.Completion.{Completion}
+use Rattle.verbs_types.specs.declared.completion.Kind.{Kind}
+use Rattle.verbs_types.specs.declared.completion.Queue.{Queue}
+use Rattle.verbs_types.specs.declared.completion.Queue.TheVariants.{Send, Recv, Shared}
+use Rattle.verbs_types.specs.contracts.completion.CompletionPartialEq.TheImpl as completions
+use Rattle.verbs_types.specs.contracts.completion.QueuePartialEq.TheImpl as queues
+use Rattle.verbs_types.specs.contracts.completion.KindPartialEq.TheImpl as kinds
 use Rattle.std.specs.contracts.prelude.OptionPartialEq.TheImpl as options
 use Rattle.std.specs.contracts.prelude.U32PartialEq.TheImpl as numbers
-use Rattle.verbs_model.specs.Same.{same_completion, same_queue, kind_number, same_flag, same_immediate}
+use Rattle.verbs_rules.specs.Same.{same_completion, same_queue, kind_number, same_flag, same_immediate}
 
 same_queue_lem : (x y : Queue) → queues.ghosts.eq x y ≡ same_queue x y
 same_queue_lem (Send n) (Send m) = refl

@@ -2,12 +2,12 @@
 use Rattle.std.proofs.Common.{◌≡◌, ℕ, ◌+◌, ◌<◌, ◌≤◌, ◌⊎◌, inl, inr, sym, ap, ◌∙◌, subst, List, length, map, set, get_or, drop, arith, get_or-set_same, get_or-set_other}
 use Rattle.std.proofs.lemmas.Bool.{cases_eq}
 use Rattle.std.proofs.lemmas.List.{map-set, get_or-map, set-get_or, get_or_default, at_drop_more, get_or-drop, length-drop}
-use Rattle.verbs_model.specs.declared.state.Unpolled.{Unpolled}
+use Rattle.verbs_types.specs.declared.state.Unpolled.{Unpolled}
 use Rattle.verbs_model.specs.Held.{Held}
 use Rattle.verbs_model.specs.Ends.{no_held, queue_of, HaveRoom, ended}
-use Rattle.verbs_model.specs.Rows.{end}
-use Rattle.verbs_model.specs.Start.{no_queue}
-use Rattle.verbs_model.specs.State.{WorkQueue}
+use Rattle.verbs_rules.specs.Rows.{end}
+use Rattle.verbs_rules.specs.Start.{no_queue}
+use Rattle.verbs_rules.specs.State.{WorkQueue}
 use Rattle.verbs_model.specs.Tables.{place_of}
 
 module _ (hs : List Held) (place : ℕ) (before later : Held) (read : before ≡ get_or hs place before) where

@@ -1,12 +1,12 @@
 -- A history is legal exactly where no entry of it is without a step.
 use Rattle.std.proofs.Common.{◌≡◌, ℕ, ◌+◌, ◌<◌, ◌≤◌, refl, sym, ap, ◌∙◌, length, get_or, drop, List, [], ◌∷◌, Option, Some, None}
 use Rattle.std.proofs.lemmas.List.{at_drop_more, at_drop_all}
-use Rattle.verbs_model.specs.declared.entry.Entry.{Entry}
-use Rattle.verbs_model.specs.declared.entry.RuleName.{RuleName}
-use Rattle.verbs_model.specs.declared.entry.Illegal.{Illegal}
-use Rattle.verbs_model.specs.State.{Verbs}
-use Rattle.verbs_model.specs.Step.{first_fault, after_entry}
-use Rattle.verbs_model.specs.Legal.{IsLegal, illegal_or, first_illegal}
+use Rattle.verbs_types.specs.declared.entry.Entry.{Entry}
+use Rattle.verbs_types.specs.declared.entry.RuleName.{RuleName}
+use Rattle.verbs_types.specs.declared.entry.Illegal.{Illegal}
+use Rattle.verbs_rules.specs.State.{Verbs}
+use Rattle.verbs_rules.specs.Step.{first_fault, after_entry}
+use Rattle.verbs_rules.specs.Legal.{IsLegal, illegal_or, first_illegal}
 
 neither : (fault : Option RuleName) (n : ℕ) (later : Option Illegal) → illegal_or fault n later ≡ None → (fault ≡ None) × (later ≡ None)
 neither None n later h = (refl, h)

@@ -3,18 +3,18 @@ use Rattle.std.proofs.Common.{◌≡◌, ℕ, ◌<◌, sym, ap, ◌∙◌, subst
 use Rattle.std.specs.Vec.{with_item}
 use Rattle.std.proofs.lemmas.List.{map-set, get_or-map, length-map, set-get_or}
 use Rattle.verbs_model.specs.declared.abstract_state.Abstract.TheInside.{Inside}
-use Rattle.verbs_model.specs.declared.completion.Queue.{Queue}
-use Rattle.verbs_model.specs.declared.completion.Queue.TheVariants.{Send}
-use Rattle.verbs_model.specs.declared.state.Act.{Act}
-use Rattle.verbs_model.specs.declared.state.QueuePair.{QueuePair}
+use Rattle.verbs_types.specs.declared.completion.Queue.{Queue}
+use Rattle.verbs_types.specs.declared.completion.Queue.TheVariants.{Send}
+use Rattle.verbs_types.specs.declared.state.Act.{Act}
+use Rattle.verbs_types.specs.declared.state.QueuePair.{QueuePair}
 use Rattle.verbs_model.specs.Held.{Held}
 use Rattle.verbs_model.specs.InsideAbstract.{tables}
-use Rattle.verbs_model.specs.Rules.{queue_lives}
-use Rattle.verbs_model.specs.Rows.{with_queue, acts_of, fetch, take as taken_to}
-use Rattle.verbs_model.specs.Start.{no_queue}
-use Rattle.verbs_model.specs.State.{WorkQueue}
+use Rattle.verbs_rules.specs.Rules.{queue_lives}
+use Rattle.verbs_rules.specs.Rows.{with_queue, acts_of, fetch, take as taken_to}
+use Rattle.verbs_rules.specs.Start.{no_queue}
+use Rattle.verbs_rules.specs.State.{WorkQueue}
 use Rattle.verbs_model.specs.Tables.{place_of, queue_at, pair_at, pair_is_in, state_of}
-use Rattle.verbs_model.proofs.Families.{state_of-set_queue, queue_at_place}
+use Rattle.verbs_model.proofs.TableQueues.{state_of-set_queue, queue_at_place}
 
 abbrev with_held : Inside → ℕ → Held → Inside
 with_held a place h = record a { queues = with_item a.queues place h }

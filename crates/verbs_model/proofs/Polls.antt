@@ -4,22 +4,23 @@ use Rattle.std.specs.List.{list_all}
 use Rattle.std.proofs.lemmas.Bool.{and_parts}
 use Rattle.std.proofs.lemmas.List.{length-map, length-take, length-set, get_or_read}
 use Rattle.std.proofs.lemmas.List.Elements.{All-nil, All-cons}
-use Rattle.verbs_model.specs.declared.completion.Completion.{Completion}
-use Rattle.verbs_model.specs.declared.completion.Queue.{Queue}
-use Rattle.verbs_model.specs.declared.completion.Queue.TheVariants.{Send, Recv, Shared}
-use Rattle.verbs_model.specs.declared.declaration.TheConstants.{FIRST_QP}
-use Rattle.verbs_model.specs.declared.state.Unpolled.{Unpolled}
+use Rattle.verbs_types.specs.declared.completion.Completion.{Completion}
+use Rattle.verbs_types.specs.declared.completion.Queue.{Queue}
+use Rattle.verbs_types.specs.declared.completion.Queue.TheVariants.{Send, Recv, Shared}
+use Rattle.verbs_types.specs.declared.declaration.TheConstants.{FIRST_QP}
+use Rattle.verbs_types.specs.declared.state.Unpolled.{Unpolled}
 use Rattle.verbs_model.specs.Ends.{ArePlaced, ended}
-use Rattle.verbs_model.specs.Family.{put}
-use Rattle.verbs_model.specs.Lines.{is_among}
-use Rattle.verbs_model.specs.Rows.{end, end_all, poll, with_completions}
-use Rattle.verbs_model.specs.Rules.{queue_lives, names_living}
-use Rattle.verbs_model.specs.Same.{same_queue, is_front}
-use Rattle.verbs_model.specs.Start.{no_queue, no_completions}
-use Rattle.verbs_model.specs.State.{WorkQueue, CompletionQueue, Verbs}
+use Rattle.verbs_rules.specs.Family.{put}
+use Rattle.verbs_types.specs.Lines.{is_among}
+use Rattle.verbs_rules.specs.Rows.{end, end_all, poll, with_completions}
+use Rattle.verbs_rules.specs.Rules.{queue_lives, names_living}
+use Rattle.verbs_rules.specs.Same.{same_queue, is_front}
+use Rattle.verbs_rules.specs.Start.{no_queue, no_completions}
+use Rattle.verbs_rules.specs.State.{WorkQueue, CompletionQueue, Verbs}
 use Rattle.verbs_model.specs.Tables.{Tables, place_of, queue_at, completions_at, completions_are_in, state_of}
-use Rattle.verbs_model.proofs.Families.{among, queue_at-set, queue_at_place, state_of-set_completions, completions_at_place, completions_inside}
-use Rattle.verbs_model.proofs.Sameness.{is_front-true}
+use Rattle.verbs_laws.proofs.Families.{among}
+use Rattle.verbs_model.proofs.TableQueues.{queue_at-set, queue_at_place, state_of-set_completions, completions_at_place, completions_inside}
+use Rattle.verbs_laws.proofs.Sameness.{is_front-true}
 
 -- how many completions a front has
 pub front_length : (xs : List Completion) (us : List Unpolled) → is_front xs us ≡ true → length xs ≡ length (take (length xs) us)

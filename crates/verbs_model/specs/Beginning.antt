@@ -1,11 +1,11 @@
 -- The objects that declaration lines make, as lists.
 use Rattle.std.specs.Prelude.{ℕ, ◌+◌, List, [], ◌∷◌}
-use Rattle.verbs_model.specs.declared.declaration.QpLine.{QpLine}
-use Rattle.verbs_model.specs.declared.declaration.Lines.{Lines}
-use Rattle.verbs_model.specs.declared.declaration.TheConstants.{FIRST_QP}
-use Rattle.verbs_model.specs.declared.state.QueuePair.{QueuePair}
-use Rattle.verbs_model.specs.Start.{fresh_queue, first_state}
-use Rattle.verbs_model.specs.State.{WorkQueue}
+use Rattle.verbs_types.specs.declared.declaration.QpLine.{QpLine}
+use Rattle.verbs_types.specs.declared.declaration.Lines.{Lines}
+use Rattle.verbs_types.specs.declared.declaration.TheConstants.{FIRST_QP}
+use Rattle.verbs_types.specs.declared.state.QueuePair.{QueuePair}
+use Rattle.verbs_rules.specs.Start.{fresh_queue, first_state}
+use Rattle.verbs_rules.specs.State.{WorkQueue}
 
 -- the send queue and the receive queue of a line
 abbrev pub both_queues : QpLine → List WorkQueue

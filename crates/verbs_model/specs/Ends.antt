@@ -1,10 +1,10 @@
 -- What a poll adds to the work queues of the completions that it took.
 use Rattle.std.specs.Prelude.{ℕ, ◌<◌, ◌≤◌, List, [], ◌∷◌, All, slice_index_or, slice_set}
-use Rattle.verbs_model.specs.declared.state.Unpolled.{Unpolled}
+use Rattle.verbs_types.specs.declared.state.Unpolled.{Unpolled}
 use Rattle.verbs_model.specs.Held.{Held}
-use Rattle.verbs_model.specs.Rows.{end}
-use Rattle.verbs_model.specs.Start.{no_queue}
-use Rattle.verbs_model.specs.State.{WorkQueue}
+use Rattle.verbs_rules.specs.Rows.{end}
+use Rattle.verbs_rules.specs.Start.{no_queue}
+use Rattle.verbs_rules.specs.State.{WorkQueue}
 use Rattle.verbs_model.specs.Tables.{place_of}
 
 abbrev pub no_held : Held

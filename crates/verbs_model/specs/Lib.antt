@@ -1,17 +1,3 @@
-pub mod Names
-pub mod Lines
-pub mod Family
-pub mod State
-pub mod Same
-pub mod Rules
-pub mod Rows
-pub mod Step
-pub mod Legal
-pub mod Answered
-pub mod Turned
-pub mod Proper
-pub mod Sane
-pub mod Start
 pub mod Held
 pub mod Inside
 pub mod InsideCompletions

@@ -1,14 +1,14 @@
 -- The state of verbs queues as lists, in the order of the objects' numbers.
 use Rattle.std.specs.Prelude.{ℕ, ◌+◌, ◌-◌, ◌*◌, Bool, if◌then◌else◌, List, length, Option, slice_index_or}
 use Rattle.std.specs.Option.{option_to_list}
-use Rattle.verbs_model.specs.declared.completion.Queue.{Queue}
-use Rattle.verbs_model.specs.declared.completion.Queue.TheVariants.{Send, Recv, Shared}
-use Rattle.verbs_model.specs.declared.declaration.TheConstants.{FIRST_QP}
-use Rattle.verbs_model.specs.declared.state.Act.{Act}
-use Rattle.verbs_model.specs.declared.state.QueuePair.{QueuePair}
-use Rattle.verbs_model.specs.Lines.{is_among}
-use Rattle.verbs_model.specs.Start.{no_queue, no_completions, no_pair}
-use Rattle.verbs_model.specs.State.{WorkQueue, CompletionQueue, Verbs}
+use Rattle.verbs_types.specs.declared.completion.Queue.{Queue}
+use Rattle.verbs_types.specs.declared.completion.Queue.TheVariants.{Send, Recv, Shared}
+use Rattle.verbs_types.specs.declared.declaration.TheConstants.{FIRST_QP}
+use Rattle.verbs_types.specs.declared.state.Act.{Act}
+use Rattle.verbs_types.specs.declared.state.QueuePair.{QueuePair}
+use Rattle.verbs_types.specs.Lines.{is_among}
+use Rattle.verbs_rules.specs.Start.{no_queue, no_completions, no_pair}
+use Rattle.verbs_rules.specs.State.{WorkQueue, CompletionQueue, Verbs}
 
 pub record Tables : Type 0 where
   -- the send queue of the queue pair at place i stands at 2i, its receive queue at 2i + 1

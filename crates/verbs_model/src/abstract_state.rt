@@ -1,17 +1,15 @@
 //! The state of verbs queues, as lists of objects.
 ghost use Rattle.std.specs.Prelude.{◌≡◌, ◌+◌, ◌-◌, ◌*◌, ◌<◌, ◌≤◌, length, IsTrue, OnOk, OnErr};
 ghost use Rattle.std.specs.Option.{option_to_list};
-ghost use Rattle.verbs_model.specs.Rules.{queue_lives};
+ghost use Rattle.verbs_rules.specs.Rules.{queue_lives};
 ghost use Rattle.verbs_model.specs.Tables as tables;
 ghost use Rattle.verbs_model.specs.Tables.{state_of};
 
-use crate::completion::Queue;
 use crate::completion_queue::CompletionQueue;
-use crate::declaration::{FIRST_QP, is_among};
-use crate::state::{Act, QueuePair, Unpolled};
 use crate::work_queue::WorkQueue;
 use ends::place_of;
 use std::marker::Model;
+use verbs_types::{Act, FIRST_QP, Queue, QueuePair, Unpolled, is_among};
 
 mod beginning;
 mod ends;

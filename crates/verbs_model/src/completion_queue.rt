@@ -1,14 +1,12 @@
 //! A completion queue.
 ghost use Rattle.std.specs.Prelude.{◌≡◌, ◌+◌, ◌-◌, ◌^◌, ◌<◌, ◌≤◌, ◌++◌, [], ◌∷◌, nat_lt, length, drop, take, OnOk, OnErr};
-ghost use Rattle.verbs_model.specs.Rows as rows;
-ghost use Rattle.verbs_model.specs.Rules.{first_failing};
+ghost use Rattle.verbs_rules.specs.Rows as rows;
+ghost use Rattle.verbs_rules.specs.Rules.{first_failing};
 
-use crate::completion::Completion;
-use crate::entry::RuleName;
 use crate::rules::is_front;
-use crate::state::Unpolled;
 use std::alloc::{AllocError, Global};
 use std::marker::Model;
+use verbs_types::{Completion, RuleName, Unpolled};
 
 /// A completion queue: every completion that was written to it, and how many of them were polled and
 /// acknowledged.
@@ -25,7 +23,7 @@ pub(crate) struct CompletionQueue {
 }
 
 impl Model for CompletionQueue {
-    ghost use Rattle.verbs_model.specs.State.{CompletionQueue};
+    ghost use Rattle.verbs_rules.specs.State.{CompletionQueue};
 
     ghost Value = { CompletionQueue };
 

@@ -1,17 +1,15 @@
 //! The first rule that an entry breaks.
 ghost use Rattle.std.specs.Prelude.{◌≡◌, IsTrue};
 ghost use Rattle.std.specs.List.{list_all};
-ghost use Rattle.verbs_model.specs.Rows as rows;
-ghost use Rattle.verbs_model.specs.Rules as rules;
-ghost use Rattle.verbs_model.specs.Step as step;
+ghost use Rattle.verbs_rules.specs.Rows as rows;
+ghost use Rattle.verbs_rules.specs.Rules as rules;
+ghost use Rattle.verbs_rules.specs.Step as step;
 ghost use Rattle.verbs_model.specs.Tables.{state_of};
 
 use crate::abstract_state::Abstract;
-use crate::completion::{Completion, Queue};
-use crate::entry::{Entry, RuleName, What};
 use crate::rules::{is_by, is_same};
-use crate::state::Act;
 use crate::work::{can_do, works};
+use verbs_types::{Act, Completion, Entry, Queue, RuleName, What};
 
 impl Abstract {
     /// The first rule that the entry breaks here, if any.

@@ -1,12 +1,12 @@
 //! Whether a history is legal.
 ghost use Rattle.std.specs.Prelude.{◌≡◌, Some, OnOk, IsErrOf, IfOk};
-ghost use Rattle.verbs_model.specs.declared.entry.Illegal.{Illegal};
-ghost use Rattle.verbs_model.specs.Legal.{IsLegal, first_illegal};
+ghost use Rattle.verbs_types.specs.declared.entry.Illegal.{Illegal};
+ghost use Rattle.verbs_rules.specs.Legal.{IsLegal, first_illegal};
 ghost use Rattle.verbs_model.specs.Tables.{state_of};
 
 use crate::abstract_state::Abstract;
-use crate::entry::{CheckFault, Entry};
 use std::alloc::AllocError;
+use verbs_types::{CheckFault, Entry};
 
 /// Checks that each entry of a history has a step, from this state on.
 ///

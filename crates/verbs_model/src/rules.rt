@@ -1,13 +1,10 @@
 //! The tests of an entry that look at no more than the entry and a queue.
 ghost use Rattle.std.specs.Prelude.{◌≡◌};
-ghost use Rattle.verbs_model.specs.Rules as rules;
-ghost use Rattle.verbs_model.specs.Rows as rows;
-ghost use Rattle.verbs_model.specs.Same as same;
+ghost use Rattle.verbs_rules.specs.Rules as rules;
+ghost use Rattle.verbs_rules.specs.Rows as rows;
+ghost use Rattle.verbs_rules.specs.Same as same;
 
-use crate::completion::{Completion, Queue};
-use crate::entry::{ADAPTER, CONTROL, What};
-use crate::request::{Body, Item};
-use crate::state::Unpolled;
+use verbs_types::{ADAPTER, Body, CONTROL, Completion, Item, Queue, Unpolled, What};
 
 /// The most bytes that may stand in a request itself.
 const MAX_INLINE: usize = 60;

@@ -1,12 +1,12 @@
 //! The step of verbs queues.
 ghost use Rattle.std.specs.Prelude.{◌≡◌, ◌↔◌, Some, OnOk, OnErr, IsErrOf};
-ghost use Rattle.verbs_model.specs.declared.entry.Illegal.{Illegal};
-ghost use Rattle.verbs_model.specs.Step.{MayStep, after_entry, first_fault};
+ghost use Rattle.verbs_types.specs.declared.entry.Illegal.{Illegal};
+ghost use Rattle.verbs_rules.specs.Step.{MayStep, after_entry, first_fault};
 ghost use Rattle.verbs_model.specs.Tables.{state_of};
 
 use crate::abstract_state::Abstract;
-use crate::entry::{CheckFault, Entry, Illegal, What};
 use std::alloc::AllocError;
+use verbs_types::{CheckFault, Entry, Illegal, What};
 
 impl Abstract {
     /// One step: what the entry makes is made. `at` is the entry's place in its history.

@@ -1,11 +1,9 @@
 //! What the adapter owes for a request that it took.
 ghost use Rattle.std.specs.Prelude.{◌≡◌};
 ghost use Rattle.std.specs.Option.{option_to_list, option_copied};
-ghost use Rattle.verbs_model.specs.Rows as rows;
+ghost use Rattle.verbs_rules.specs.Rows as rows;
 
-use crate::completion::{Completion, Kind, Queue};
-use crate::request::{Item, Op, Request};
-use crate::state::{Act, QpState, QueuePair, Unpolled};
+use verbs_types::{Act, Completion, Item, Kind, Op, QpState, Queue, QueuePair, Request, Unpolled};
 
 /// Success (`IBV_WC_SUCCESS`).
 const SUCCESS: u8 = 0;

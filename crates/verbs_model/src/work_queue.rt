@@ -2,17 +2,15 @@
 ghost use Rattle.std.specs.Prelude.{◌≡◌, ◌==◌, ◌&&◌, ◌+◌, ◌-◌, ◌<◌, ◌≤◌, nat_le, length, slice_get, IfOk, OnOk, OnErr};
 ghost use Rattle.std.specs.List.{list_all};
 ghost use Rattle.std.specs.Option.{option_copied};
-ghost use Rattle.verbs_model.specs.Rows as rows;
-ghost use Rattle.verbs_model.specs.Rules.{first_failing};
-ghost use Rattle.verbs_model.specs.Start.{fresh_queue};
+ghost use Rattle.verbs_rules.specs.Rows as rows;
+ghost use Rattle.verbs_rules.specs.Rules.{first_failing};
+ghost use Rattle.verbs_rules.specs.Start.{fresh_queue};
 
-use crate::completion::Queue;
-use crate::entry::RuleName;
-use crate::request::Item;
 use crate::rules::item_fits;
 use std::alloc::{AllocError, Global};
 use std::collections::VecDeque;
 use std::marker::Model;
+use verbs_types::{Item, Queue, RuleName};
 
 /// A send or receive queue: all that was ever posted on it, and how far the adapter and the program have
 /// come.

@@ -9,9 +9,9 @@ use Rattle.prm_fields.specs.Refusal.{first_refusal}
 use Rattle.prm_fields.specs.Spelling.{Spells}
 use Rattle.prm_fields.specs.declared.layout.LayoutName.TheVariants.{DataUnit}
 use Rattle.prm_fields.proofs.Values.{field_value-add}
-use Rattle.verbs_model.specs.declared.request.Op.{Op}
-use Rattle.verbs_model.specs.declared.request.Op.TheVariants.{Nop as NopOp, Send as SendOp, SendImm as SendImmOp, Write, WriteImm, Read, Cas, Faa}
-use Rattle.verbs_model.specs.declared.request.Sge.{Sge}
+use Rattle.verbs_types.specs.declared.request.Op.{Op}
+use Rattle.verbs_types.specs.declared.request.Op.TheVariants.{Nop as NopOp, Send as SendOp, SendImm as SendImmOp, Write, WriteImm, Read, Cas, Faa}
+use Rattle.verbs_types.specs.declared.request.Sge.{Sge}
 use Rattle.work_entries.specs.declared.fault.BadEntry.{BadEntry}
 use Rattle.work_entries.specs.declared.fault.EntryRule.TheVariants.{Opcode as OpcodeRule, Size, Reserved}
 use Rattle.work_entries.specs.declared.opcode.Opcode.{Opcode}

@@ -6,7 +6,7 @@ use Rattle.prm_fields.specs.Bits.{field_value}
 use Rattle.prm_fields.specs.Spelling.{Spells}
 use Rattle.prm_fields.specs.declared.layout.LayoutName.TheVariants.{DataUnit}
 use Rattle.prm_fields.proofs.Values.{field_value-add, field_value-lt}
-use Rattle.verbs_model.specs.declared.request.Sge.{Sge}
+use Rattle.verbs_types.specs.declared.request.Sge.{Sge}
 use Rattle.work_entries.specs.Unit.{unit}
 use Rattle.work_entries.specs.Body.{HasSegments, IsShort, segment_values, begins_inline}
 

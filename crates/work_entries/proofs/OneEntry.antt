@@ -12,9 +12,9 @@ use Rattle.prm_fields.specs.declared.layout.LayoutName.{LayoutName}
 use Rattle.prm_fields.specs.declared.layout.LayoutName.TheVariants.{Ctrl, Raddr, Atomic, DataUnit, Inline as InlineLayout}
 use Rattle.prm_fields.proofs.Parts.{field_value-take}
 use Rattle.prm_fields.proofs.Spelling.{one_spelling}
-use Rattle.verbs_model.specs.declared.request.Op.{Op}
-use Rattle.verbs_model.specs.declared.request.Op.TheVariants.{Nop as NopOp, Send as SendOp, SendImm as SendImmOp, Write, WriteImm, Read, Cas, Faa}
-use Rattle.verbs_model.specs.declared.request.Sge.{Sge}
+use Rattle.verbs_types.specs.declared.request.Op.{Op}
+use Rattle.verbs_types.specs.declared.request.Op.TheVariants.{Nop as NopOp, Send as SendOp, SendImm as SendImmOp, Write, WriteImm, Read, Cas, Faa}
+use Rattle.verbs_types.specs.declared.request.Sge.{Sge}
 use Rattle.work_entries.specs.declared.sent.Sent.{Sent}
 use Rattle.work_entries.specs.declared.sent.SentBody.{SentBody}
 use Rattle.work_entries.specs.declared.sent.SentBody.TheVariants.{Sges, Inline}

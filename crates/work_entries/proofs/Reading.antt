@@ -3,7 +3,7 @@ use Rattle.std.proofs.Common.{◌≡◌, ℕ, ◌+◌, ◌-◌, ◌*◌, ◌<◌
 use Rattle.std.proofs.lemmas.Bool.{agree_below_at, and_cases, and_parts, both_ways, eqb-true, not-false}
 use Rattle.prm_fields.specs.Refusal.{Rule, first_refusal}
 use Rattle.prm_fields.proofs.Values.{field_value-lt}
-use Rattle.verbs_model.specs.declared.request.Op.{Op}
+use Rattle.verbs_types.specs.declared.request.Op.{Op}
 use Rattle.work_entries.specs.declared.control.Control.{Control}
 use Rattle.work_entries.specs.declared.fault.BadEntry.{BadEntry}
 use Rattle.work_entries.specs.declared.fault.EntryRule.TheVariants.{Reserved}

@@ -4,7 +4,7 @@ use Rattle.std.specs.List.{AllByRecursion}
 use Rattle.std.proofs.lemmas.Bool.{both_ways, cases_eq, cases_order}
 use Rattle.prm_fields.specs.Spelling.{Spells}
 use Rattle.prm_fields.specs.declared.layout.LayoutName.TheVariants.{DataUnit}
-use Rattle.verbs_model.specs.declared.request.Sge.{Sge}
+use Rattle.verbs_types.specs.declared.request.Sge.{Sge}
 use Rattle.work_entries.specs.Unit.{KeepsOtherWords, unit}
 use Rattle.work_entries.specs.Body.{HasSegments, segment_values}
 use Rattle.work_entries.specs.Receive.{IsReal, IsReceive, end_of_list}

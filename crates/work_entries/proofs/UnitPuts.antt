@@ -4,7 +4,7 @@ use Rattle.prm_fields.specs.Bits.{field_value}
 use Rattle.prm_fields.specs.Spelling.{Spells}
 use Rattle.prm_fields.specs.declared.layout.LayoutName.TheVariants.{Ctrl, Raddr, Atomic, DataUnit}
 use Rattle.prm_fields.proofs.Chains.{Put, put_of, Chain, all_hold, untouched, is_apart, field_value-zeros, zeros_read}
-use Rattle.verbs_model.specs.declared.request.Sge.{Sge}
+use Rattle.verbs_types.specs.declared.request.Sge.{Sge}
 use Rattle.work_entries.specs.declared.control.Control.{Control}
 use Rattle.work_entries.specs.Opcode.{opcode_number}
 use Rattle.work_entries.specs.Control.{control_values}

@@ -6,7 +6,7 @@ use Rattle.prm_fields.specs.declared.layout.FieldName.{FieldName}
 use Rattle.prm_fields.specs.declared.layout.FieldName.TheVariants.{ByteCount, Lkey, Addr, Inline as InlineField}
 use Rattle.prm_fields.specs.Bits.{field_value}
 use Rattle.prm_fields.specs.Spelling.{Spells}
-use Rattle.verbs_model.specs.declared.request.Sge.{Sge}
+use Rattle.verbs_types.specs.declared.request.Sge.{Sge}
 use Rattle.work_entries.specs.declared.opcode.Opcode.{Opcode}
 use Rattle.work_entries.specs.declared.sent.SentBody.{SentBody}
 use Rattle.work_entries.specs.declared.sent.SentBody.TheVariants.{Sges, Inline}

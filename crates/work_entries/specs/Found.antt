@@ -4,8 +4,8 @@ use Rattle.std.specs.List.{AllByRecursion}
 use Rattle.prm_fields.specs.declared.layout.LayoutName.TheVariants.{Ctrl}
 use Rattle.prm_fields.specs.Refusal.{Rule}
 use Rattle.prm_fields.specs.Spelling.{Spells}
-use Rattle.verbs_model.specs.declared.request.Op.{Op}
-use Rattle.verbs_model.specs.declared.request.Sge.{Sge}
+use Rattle.verbs_types.specs.declared.request.Op.{Op}
+use Rattle.verbs_types.specs.declared.request.Sge.{Sge}
 use Rattle.work_entries.specs.declared.control.Control.{Control}
 use Rattle.work_entries.specs.declared.fault.BadEntry.{BadEntry}
 use Rattle.work_entries.specs.declared.fault.EntryRule.TheVariants.{Reserved}

@@ -1,6 +1,6 @@
 -- What holds of every entry.
 use Rattle.std.specs.Prelude.{◌≡◌, ℕ, ◌*◌, ◌^◌, ◌<◌, List, slice_index}
-use Rattle.verbs_model.specs.declared.request.Sge.{Sge}
+use Rattle.verbs_types.specs.declared.request.Sge.{Sge}
 use Rattle.work_entries.specs.declared.sent.Sent.{Sent}
 use Rattle.work_entries.specs.declared.units.SendWords.{SendWords}
 use Rattle.work_entries.specs.Send.{IsSend}

@@ -1,7 +1,7 @@
 -- The opcode table: the number of each opcode, and what its entry carries.
 use Rattle.std.specs.Prelude.{ℕ, Bool, true, false, ◌==◌, [], ◌∷◌, Option, find}
-use Rattle.verbs_model.specs.declared.request.Op.{Op}
-use Rattle.verbs_model.specs.declared.request.Op.TheVariants.{Nop as NopOp, Send as SendOp, SendImm as SendImmOp, Write, WriteImm, Read, Cas, Faa}
+use Rattle.verbs_types.specs.declared.request.Op.{Op}
+use Rattle.verbs_types.specs.declared.request.Op.TheVariants.{Nop as NopOp, Send as SendOp, SendImm as SendImmOp, Write, WriteImm, Read, Cas, Faa}
 use Rattle.work_entries.specs.declared.opcode.Opcode.{Opcode}
 use Rattle.work_entries.specs.declared.opcode.Opcode.TheVariants.{Nop, RdmaWrite, RdmaWriteImm, Send, SendImm, RdmaRead, AtomicCs, AtomicFa}
 

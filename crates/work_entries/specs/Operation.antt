@@ -5,8 +5,8 @@ use Rattle.prm_fields.specs.declared.layout.FieldName.{FieldName}
 use Rattle.prm_fields.specs.declared.layout.FieldName.TheVariants.{Addr, Rkey, SwapOrAdd, Compare}
 use Rattle.prm_fields.specs.Bits.{field_value}
 use Rattle.prm_fields.specs.Spelling.{Spells}
-use Rattle.verbs_model.specs.declared.request.Op.{Op}
-use Rattle.verbs_model.specs.declared.request.Op.TheVariants.{Nop, Send, SendImm, Write, WriteImm, Read, Cas, Faa}
+use Rattle.verbs_types.specs.declared.request.Op.{Op}
+use Rattle.verbs_types.specs.declared.request.Op.TheVariants.{Nop, Send, SendImm, Write, WriteImm, Read, Cas, Faa}
 use Rattle.work_entries.specs.Unit.{unit}
 
 abbrev pub remote_values : ℕ → ℕ → FieldName → ℕ

@@ -3,7 +3,7 @@ use Rattle.std.specs.Prelude.{◌≡◌, ◌≢◌, ℕ, ◌+◌, ◌*◌, ◌/�
 use Rattle.std.specs.List.{AllByRecursion}
 use Rattle.prm_fields.specs.declared.layout.LayoutName.TheVariants.{DataUnit}
 use Rattle.prm_fields.specs.Spelling.{Spells}
-use Rattle.verbs_model.specs.declared.request.Sge.{Sge}
+use Rattle.verbs_types.specs.declared.request.Sge.{Sge}
 use Rattle.work_entries.specs.Unit.{unit}
 use Rattle.work_entries.specs.Body.{HasSegments, segment_values}
 

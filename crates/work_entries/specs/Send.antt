@@ -2,9 +2,9 @@
 use Rattle.std.specs.Prelude.{◌≡◌, ℕ, ◌+◌, ◌*◌, ◌<◌, ◌≤◌, IsTrue}
 use Rattle.prm_fields.specs.declared.layout.LayoutName.TheVariants.{Ctrl}
 use Rattle.prm_fields.specs.Spelling.{Spells}
-use Rattle.verbs_model.specs.declared.request.Body.{Body}
-use Rattle.verbs_model.specs.declared.request.Body.TheVariants.{Sges, Inline}
-use Rattle.verbs_model.specs.declared.request.Request.{Request}
+use Rattle.verbs_types.specs.declared.request.Body.{Body}
+use Rattle.verbs_types.specs.declared.request.Body.TheVariants.{Sges, Inline}
+use Rattle.verbs_types.specs.declared.request.Request.{Request}
 use Rattle.work_entries.specs.declared.control.Control.{Control}
 use Rattle.work_entries.specs.declared.sent.Sent.{Sent}
 use Rattle.work_entries.specs.declared.sent.SentBody.{SentBody}

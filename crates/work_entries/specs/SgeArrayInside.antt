@@ -1,6 +1,6 @@
 -- What the fields of an array of scatter/gather entries keep.
 use Rattle.std.specs.Prelude.{◌≡◌, ◌≤◌, length, take}
-use Rattle.verbs_model.specs.declared.request.Sge.{Sge}
+use Rattle.verbs_types.specs.declared.request.Sge.{Sge}
 use Rattle.work_entries.specs.declared.sge_array.SgeArray.TheInside.{Inside}
 use Rattle.work_entries.specs.Filled.{filled}
 

@@ -13,7 +13,7 @@ use crate::receive::{decode_recv, encode_recv};
 use crate::send::{decode_send, encode_send};
 use crate::sent::Sent;
 use crate::sge_array::SgeArray;
-use verbs_model::{Request, Sequence, Sge};
+use verbs_types::{Request, Sequence, Sge};
 
 /// No words spell two requests.
 pub fn one_request()

@@ -1,6 +1,6 @@
 //! The opcode table of send entries.
 
-use verbs_model::Op;
+use verbs_types::Op;
 
 /// What a send entry asks for. The names and numbers are those of the Programmer's Reference Manual
 /// and the rdma-core mlx5 provider.

@@ -12,7 +12,7 @@ use crate::fault::{BadEntry, EntryRule};
 use crate::opcode::Opcode;
 use crate::units::{put_unit, unit_at};
 use prm_fields::{LayoutName, atomic_rows, field_of, raddr_rows, reserved_clear};
-use verbs_model::Op;
+use verbs_types::Op;
 
 /// The remote memory of an operation.
 #[derive(Clone, Copy, Debug, PartialEq, Eq)]

@@ -2,14 +2,14 @@
 
 ghost use Rattle.std.specs.Prelude.{◌≡◌, ◌≤◌, List, length};
 ghost use Rattle.std.specs.List.{AllByRecursion};
-ghost use Rattle.verbs_model.specs.declared.request.Sge.{Sge};
+ghost use Rattle.verbs_types.specs.declared.request.Sge.{Sge};
 ghost use Rattle.work_entries.specs.Receive.{AreClearFrom, IsReal, IsReceive, used_units};
 ghost use Rattle.work_entries.specs.Receive.{room_of as room_for};
 
 use crate::segments::{put_segments, segment_in, segment_unit};
 use crate::sge_array::SgeArray;
 use crate::units::{put_unit, unit_at};
-use verbs_model::{Sequence, Sge};
+use verbs_types::{Sequence, Sge};
 
 // The segment that ends a list of fewer segments than there are units. No region has this key, since
 // no region has variant 0.

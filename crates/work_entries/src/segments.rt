@@ -14,7 +14,7 @@ use crate::fault::{BadEntry, EntryRule};
 use crate::sge_array::SgeArray;
 use crate::units::{put_unit, unit_at};
 use prm_fields::{data_rows, field_of, inline_rows};
-use verbs_model::Sge;
+use verbs_types::Sge;
 
 /// A segment as bytes.
 pub(crate) fn segment_unit(sge: Sge) -> [u8; 16]

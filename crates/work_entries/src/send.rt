@@ -19,7 +19,7 @@ use crate::operation::{operation_at, put_operation};
 use crate::segments::{begins_inline, put_segments, segments_at};
 use crate::sent::{Sent, SentBody};
 use crate::units::{SendWords, blocks_of, is_clear, put_unit, unit_at};
-use verbs_model::{Body, Op, Request};
+use verbs_types::{Body, Op, Request};
 
 /// Writes the data from unit `first` on, and gives how many units it takes.
 fn put_body(words: &mut [u64; 32], first: usize, opcode: Opcode, body: &Body) -> usize

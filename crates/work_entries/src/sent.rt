@@ -2,7 +2,7 @@
 
 use crate::inline_bytes::InlineBytes;
 use crate::sge_array::SgeArray;
-use verbs_model::Op;
+use verbs_types::Op;
 
 /// The data of a request, in fixed size.
 #[derive(Clone, Copy, Debug, PartialEq, Eq)]

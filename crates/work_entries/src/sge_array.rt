@@ -1,7 +1,7 @@
 //! Scatter/gather entries in fixed size.
 
 use std::marker::Model;
-use verbs_model::Sge;
+use verbs_types::Sge;
 
 /// Up to eight scatter/gather entries, which contracts see as a list. It does not allocate.
 #[derive(Clone, Copy, Debug, PartialEq, Eq)]
@@ -12,7 +12,7 @@ pub struct SgeArray {
 
 impl Model for SgeArray {
     ghost use Rattle.std.specs.Prelude.{List, length, take};
-    ghost use Rattle.verbs_model.specs.declared.request.Sge.{Sge};
+    ghost use Rattle.verbs_types.specs.declared.request.Sge.{Sge};
 
     ghost Value = { List Sge };
 

@@ -2,7 +2,7 @@
 use Rattle.std.proofs.Common.{◌≡◌, ◌∙◌, refl, ap, ℕ, ◌-◌, ◌++◌, List, [], ◌∷◌, Some}
 use Rattle.bus_core.specs.declared.operation.BusEntry.{BusEntry}
 use Rattle.bus_core.specs.Plain.{Plain, port_of}
-use Rattle.bus_core.specs.Port.{Told, Appends}
+use Rattle.bus_core.specs.Port.{TraceView, Appends}
 use Rattle.world_core.specs.Run.{with_operation}
 
 same_bus : (a b : Plain) → a.actor ≡ b.actor → a.start ≡ b.start → a.trace ≡ b.trace → a.room ≡ b.room → a ≡ b

@@ -3,12 +3,12 @@ use Rattle.std.proofs.Common.{◌≡◌, ◌∙◌, refl, sym, ap, subst, ℕ, s
 use Rattle.bus_core.specs.declared.operation.BusEntry.{BusEntry}
 use Rattle.bus_core.specs.Mark.{Marked, entries}
 use Rattle.bus_core.specs.Trace.{IsConsistent}
-use Rattle.verbs_model.specs.declared.call.Call.{Call}
-use Rattle.verbs_model.specs.declared.declaration.Lines.{Lines}
-use Rattle.verbs_model.specs.declared.entry.Entry.{Entry}
-use Rattle.verbs_model.specs.Sane.{Bounds}
-use Rattle.verbs_model.specs.Start.{start}
-use Rattle.verbs_model.specs.State.{Verbs}
+use Rattle.verbs_types.specs.declared.call.Call.{Call}
+use Rattle.verbs_types.specs.declared.declaration.Lines.{Lines}
+use Rattle.verbs_types.specs.declared.entry.Entry.{Entry}
+use Rattle.verbs_rules.specs.Sane.{Bounds}
+use Rattle.verbs_rules.specs.Start.{start}
+use Rattle.verbs_rules.specs.State.{Verbs}
 use Rattle.object_places.specs.Objects.{Mark}
 use Rattle.actor_rules.specs.Actors.{fresh_actors}
 use Rattle.actor_rules.specs.Ready.{AreReady}
@@ -19,7 +19,7 @@ use Rattle.scenario_text.specs.declared.scenario.ScenarioParts.{ScenarioParts}
 use Rattle.scenario_text.specs.Running.{CanRun}
 use Rattle.ready_scenarios.specs.Ready.{IsReady, bounds_of}
 use Rattle.noted_history.specs.Marks.{marks_in}
-use Rattle.noted_history.specs.Told.{IsTold}
+use Rattle.noted_history.specs.OfNotes.{HasNotes}
 use Rattle.world_core.specs.declared.outcome.Outcome.{Outcome}
 use Rattle.world_core.specs.Holding.{actor_of, Holds}
 use Rattle.world_core.specs.Outcome.{IsOutcome, marks_of}
@@ -51,10 +51,10 @@ module _ (s : ScenarioParts) (v : RunView) (h : Holds s v) (consistent : IsConsi
   run_is_bounded law ready can = law s.lines s.programs (bounds_of s.lines s.programs) h.trace (ready s can).law run_is
 
   module _ (legal : IsHistory s.lines s.programs (history s.lines s.programs h.trace)) where
-    pub told : (first : Verbs) (programs : List (List Call)) → first ≡ start s.lines → programs ≡ s.programs → IsTold first programs v.turns (history s.lines s.programs h.trace)
+    pub told : (first : Verbs) (programs : List (List Call)) → first ≡ start s.lines → programs ≡ s.programs → HasNotes first programs v.turns (history s.lines s.programs h.trace)
     told first programs first_is programs_are =
-        subst (λ (u : Verbs). IsTold u programs v.turns (history s.lines s.programs h.trace)) (sym first_is)
-        (subst (λ (ps : List (List Call)). IsTold (start s.lines) ps v.turns (history s.lines s.programs h.trace)) (sym programs_are)
+        subst (λ (u : Verbs). HasNotes u programs v.turns (history s.lines s.programs h.trace)) (sym first_is)
+        (subst (λ (ps : List (List Call)). HasNotes (start s.lines) ps v.turns (history s.lines s.programs h.trace)) (sym programs_are)
         (record { legal = legal.legal; answered = legal.answered; notes = h.made.notes }))
 
     pub outcome_is : (o : Outcome) → IsBoundedRun s.lines s.programs h.trace → o.trace.items ≡ v.bus.trace → o.marks.items ≡ marks_in v.turns → o.history ≡ history s.lines s.programs h.trace → IsOutcome s (map actor_of v.turns) o

@@ -2,7 +2,7 @@
 use Rattle.std.proofs.Common.{◌≡◌, ◌∙◌, refl, sym, ap, subst, arith, ℕ, zero, suc, ◌+◌, ◌<◌, ◌≤◌, ◌++◌, List, [], ◌∷◌, length, drop, replicate, append-nil, Some, None, slice_get, slice_index_or}
 use Rattle.std.proofs.lemmas.List.{length-replicate}
 use Rattle.bus_core.specs.Plain.{Plain}
-use Rattle.verbs_model.specs.declared.declaration.Lines.{Lines}
+use Rattle.verbs_types.specs.declared.declaration.Lines.{Lines}
 use Rattle.actor_map.specs.Sizes.{words_of}
 use Rattle.actor_map.specs.Start.{starts}
 use Rattle.world_core.specs.Start.{IsFirstBus}

@@ -2,7 +2,7 @@
 use Rattle.std.proofs.Common.{◌≡◌, ◌∙◌, refl, sym, ap, inl, inr, ℕ, ◌++◌, Bool, List, [], ◌∷◌, is_some}
 use Rattle.std.specs.List.{fold}
 use Rattle.bus_core.specs.Mark.{Marked}
-use Rattle.verbs_model.specs.declared.declaration.Lines.{Lines}
+use Rattle.verbs_types.specs.declared.declaration.Lines.{Lines}
 use Rattle.object_places.specs.Objects.{Mark}
 use Rattle.actor_rules.specs.Actors.{Actors, after, says}
 use Rattle.world_core.specs.Outcome.{AreTurns, Makes, Passes, marks_of}

@@ -1,7 +1,7 @@
 -- What a turn asks of a run.
 use Rattle.std.proofs.Common.{◌≡◌, ◌∙◌, sym, ap, true, List, subst, arith, ℕ, suc, ◌+◌, ◌*◌, ◌<◌, ◌≤◌, ◌^◌, length, Some, slice_get}
-use Rattle.verbs_model.specs.declared.completion.Queue.{Queue}
-use Rattle.verbs_model.specs.declared.declaration.Lines.{Lines}
+use Rattle.verbs_types.specs.declared.completion.Queue.{Queue}
+use Rattle.verbs_types.specs.declared.declaration.Lines.{Lines}
 use Rattle.actor_map.specs.Sizes.{words_of}
 use Rattle.owner_ring.specs.Consumer.{Consumer, Waiting, Reading}
 use Rattle.device_engine.specs.Counts.{CountsBelow}
@@ -11,8 +11,8 @@ use Rattle.scenario_text.specs.Limits.{turn_count}
 use Rattle.scenario_text.specs.Running.{CanRun}
 use Rattle.thread_actor.specs.Small.{IsBelow}
 use Rattle.thread_actor.specs.View.{ThreadView, thread_of}
-use Rattle.noted_history.specs.declared.log.Made.TheVariants.{Nothing}
-use Rattle.noted_history.specs.declared.log.Turn.{Turn}
+use Rattle.noted_history.specs.declared.log.TurnResult.TheVariants.{Nothing}
+use Rattle.noted_history.specs.declared.log.TurnRecord.{TurnRecord}
 use Rattle.world_core.specs.Holding.{low_after, Holds}
 use Rattle.world_core.specs.Run.{RunView, AdapterCan, ThreadCan, CanOperate, CanTurn, IsGoing, ThreadRests, with_turn}
 use Rattle.world_core.proofs.Turning.{weaken_adapter, weaken_thread}
@@ -58,12 +58,12 @@ pub same_thread : (threads : List ThreadView) (place : ℕ) (one other : ThreadV
 same_thread threads place one other here there = let both : Some one ≡ Some other = sym here ∙ there in cc both
 
 -- a thread that has ended leaves a turn that made nothing
-pub rested : (v : RunView) (turns : List Turn) (capacity place : ℕ) (thread : ThreadView) → slice_get v.threads place ≡ Some thread → thread.ended ≡ true → turns ≡ with_turn v.turns (place + 1) Nothing → capacity ≡ v.capacity
+pub rested : (v : RunView) (turns : List TurnRecord) (capacity place : ℕ) (thread : ThreadView) → slice_get v.threads place ≡ Some thread → thread.ended ≡ true → turns ≡ with_turn v.turns (place + 1) Nothing → capacity ≡ v.capacity
     → ThreadRests v (record { bus = v.bus; adapter = v.adapter; threads = v.threads; turns = turns; capacity = capacity }) place
 rested v turns capacity place thread found ended turns_are capacity_is = let next : place + 1 ≡ suc place = omega arith in record {
   thread = thread;
   found = found;
   ended = ended;
-  new_is = ap (λ (ts : List Turn). record { bus = v.bus; adapter = v.adapter; threads = v.threads; turns = ts; capacity = capacity }) (turns_are ∙ ap (λ (actor : ℕ). with_turn v.turns actor Nothing) next)
+  new_is = ap (λ (ts : List TurnRecord). record { bus = v.bus; adapter = v.adapter; threads = v.threads; turns = ts; capacity = capacity }) (turns_are ∙ ap (λ (actor : ℕ). with_turn v.turns actor Nothing) next)
       ∙ ap (λ (n : ℕ). record { bus = v.bus; adapter = v.adapter; threads = v.threads; turns = with_turn v.turns (suc place) Nothing; capacity = n }) capacity_is;
 }

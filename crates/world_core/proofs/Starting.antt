@@ -2,8 +2,8 @@
 use Rattle.std.proofs.Common.{◌≡◌, ◌∙◌, refl, sym, ap, subst, arith, ℕ, zero, suc, ◌+◌, ◌*◌, ◌<◌, ◌≤◌, ◌^◌, nat_le, nat_lt, not, Bool, true, false, ◌&&◌, List, [], length, map, None, Some, slice_get, slice_index_or}
 use Rattle.std.proofs.lemmas.Option.{slice_get_within}
 use Rattle.bus_core.specs.Mark.{Marked}
-use Rattle.verbs_model.specs.declared.call.Call.{Call}
-use Rattle.verbs_model.specs.declared.declaration.Lines.{Lines}
+use Rattle.verbs_types.specs.declared.call.Call.{Call}
+use Rattle.verbs_types.specs.declared.declaration.Lines.{Lines}
 use Rattle.counted_ring.specs.Law.{fresh_poster}
 use Rattle.object_places.specs.Objects.{Mark}
 use Rattle.device_engine.specs.Counts.{CountsBelow, CountsGrow}
@@ -15,10 +15,10 @@ use Rattle.scenario_text.specs.Running.{CanRun}
 use Rattle.thread_actor.specs.Fresh as thread
 use Rattle.thread_actor.specs.Small.{IsBelow}
 use Rattle.thread_actor.specs.View.{ThreadView, thread_of}
-use Rattle.noted_history.specs.declared.log.Turn.{Turn}
+use Rattle.noted_history.specs.declared.log.TurnRecord.{TurnRecord}
 use Rattle.noted_history.specs.Marks.{marks_in}
-use Rattle.noted_history.specs.Told.{noted, AreNotes}
-use Rattle.world_core.specs.Holding.{low_after, actors_after, actor_of, IsAdapter, IsThreadOf, Made, Stand, Holds}
+use Rattle.noted_history.specs.OfNotes.{noted, AreNotes}
+use Rattle.world_core.specs.Holding.{low_after, actors_after, actor_of, IsAdapter, IsThreadOf, MadeTurns, Stand, Holds}
 use Rattle.world_core.specs.Outcome.{AreTurns}
 use Rattle.world_core.specs.Run.{RunView, CanTurn}
 use Rattle.world_core.specs.Start.{IsFirst}
@@ -40,7 +40,7 @@ module _ (s : ScenarioParts) (v : RunView) (can : CanRun s) (grow : CountsGrow) 
   abbrev first : Actors
   first = fresh_actors s.lines s.programs
 
-  none_made : Made s [] []
+  none_made : MadeTurns s [] []
   none_made = record { keeps = tt; turned = tt; notes = tt; marks = refl }
 
   first_thread : (t : ℕ) (view : ThreadView) → slice_get v.threads t ≡ Some view → IsThreadOf s.lines first 0 (suc t) view
@@ -63,10 +63,10 @@ module _ (s : ScenarioParts) (v : RunView) (can : CanRun s) (grow : CountsGrow) 
 
   pub first_holds : Holds s v
   first_holds =
-      let none : 0 ≡ length v.turns = ap (λ (ts : List Turn). length ts) (sym f.turns) in
+      let none : 0 ≡ length v.turns = ap (λ (ts : List TurnRecord). length ts) (sym f.turns) in
       record {
         trace = [];
-        made = subst (λ (ts : List Turn). Made s ts []) (sym f.turns) none_made;
+        made = subst (λ (ts : List TurnRecord). MadeTurns s ts []) (sym f.turns) none_made;
         stand = record {
           adapter = subst (λ n. IsAdapter s.lines first n v.adapter) none first_adapter;
           thread_count = f.threads.count;

@@ -8,12 +8,12 @@ use Rattle.bus_core.specs.declared.turn.Note.{Note}
 use Rattle.bus_core.specs.Mark.{Marked, entries}
 use Rattle.bus_core.specs.Plain.{Plain}
 use Rattle.bus_core.proofs.Following.{fold-push}
-use Rattle.verbs_model.specs.declared.call.Call.{Call}
-use Rattle.verbs_model.specs.declared.completion.Queue.{Queue}
-use Rattle.verbs_model.specs.declared.declaration.Lines.{Lines}
-use Rattle.verbs_model.specs.declared.entry.Entry.{Entry}
-use Rattle.verbs_model.specs.declared.entry.What.{What}
-use Rattle.verbs_model.specs.declared.request.Item.{Item}
+use Rattle.verbs_types.specs.declared.call.Call.{Call}
+use Rattle.verbs_types.specs.declared.completion.Queue.{Queue}
+use Rattle.verbs_types.specs.declared.declaration.Lines.{Lines}
+use Rattle.verbs_types.specs.declared.entry.Entry.{Entry}
+use Rattle.verbs_types.specs.declared.entry.What.{What}
+use Rattle.verbs_types.specs.declared.request.Item.{Item}
 use Rattle.actor_map.specs.Notes.{note_of}
 use Rattle.object_places.specs.Objects.{Mark}
 use Rattle.owner_ring.specs.Consumer.{Consumer, Waiting, Reading}
@@ -31,10 +31,10 @@ use Rattle.thread_actor.specs.Small.{IsPosterBelow, IsHostBelow, IsBelow}
 use Rattle.thread_actor.specs.Turn.{marked, IsNoteOf}
 use Rattle.thread_actor.specs.View.{ThreadView, thread_of}
 use Rattle.thread_actor.proofs.Places.{set_here, set_there}
-use Rattle.noted_history.specs.declared.log.Made.{Made as MadeBy}
-use Rattle.noted_history.specs.declared.log.Made.TheVariants.{Nothing}
-use Rattle.noted_history.specs.declared.log.Turn.{Turn}
-use Rattle.world_core.specs.Holding.{actors_after, low_after, IsAdapter, IsThreadOf, Made, Stand, HasBus, Holds}
+use Rattle.noted_history.specs.declared.log.TurnResult.{TurnResult as MadeBy}
+use Rattle.noted_history.specs.declared.log.TurnResult.TheVariants.{Nothing}
+use Rattle.noted_history.specs.declared.log.TurnRecord.{TurnRecord}
+use Rattle.world_core.specs.Holding.{actors_after, low_after, IsAdapter, IsThreadOf, MadeTurns, Stand, HasBus, Holds}
 use Rattle.world_core.specs.Outcome.{Makes, Passes, has_ended}
 use Rattle.world_core.specs.Run.{RunView, AdapterMoves, ThreadMoves, ThreadRests, made_of, with_operation, with_turn}
 use Rattle.world_core.proofs.Moving.{Fits, made_passes, made_moves}
@@ -58,13 +58,13 @@ weaken_adapter m n s le low = record {
   completions = λ (cq : ℕ). omega (arith, le, low.completions cq);
 }
 
-one_more : (turns : List Turn) (actor : ℕ) (made : MadeBy) → length (with_turn turns actor made) ≡ length turns + 1
+one_more : (turns : List TurnRecord) (actor : ℕ) (made : MadeBy) → length (with_turn turns actor made) ≡ length turns + 1
 one_more turns actor made = length-append turns (record { actor = actor; made = made } ∷ [])
 
-low_next : (turns : List Turn) (actor : ℕ) (made : MadeBy) → low_after (length turns) + 64 ≡ low_after (length (with_turn turns actor made))
+low_next : (turns : List TurnRecord) (actor : ℕ) (made : MadeBy) → low_after (length turns) + 64 ≡ low_after (length (with_turn turns actor made))
 low_next turns actor made = omega (arith, one_more turns actor made)
 
-low_rises : (turns : List Turn) (actor : ℕ) (made : MadeBy) → low_after (length turns) ≤ low_after (length (with_turn turns actor made))
+low_rises : (turns : List TurnRecord) (actor : ℕ) (made : MadeBy) → low_after (length turns) ≤ low_after (length (with_turn turns actor made))
 low_rises turns actor made = omega (arith, one_more turns actor made)
 
 -- What is as before
@@ -98,7 +98,7 @@ module _ (s : ScenarioParts) (old new : RunView) (trace : List (Marked Mark)) (a
   bus_moves : HasBus s old trace → new.bus ≡ with_operation old.bus actor x.entry → new.turns ≡ with_turn old.turns actor made → new.capacity ≡ old.capacity → HasBus s new (trace ++ x ∷ [])
   bus_moves h bus turns capacity =
       let room : new.bus.room ≡ old.bus.room - 1 = ap (λ (b : Plain). b.room) bus in
-      let long : length new.turns ≡ length old.turns + 1 = ap (λ (ts : List Turn). length ts) turns ∙ one_more old.turns actor made in
+      let long : length new.turns ≡ length old.turns + 1 = ap (λ (ts : List TurnRecord). length ts) turns ∙ one_more old.turns actor made in
       record {
         start = ap (λ (b : Plain). b.start) bus ∙ h.start;
         words = ap (λ (b : Plain). length b.start) bus ∙ h.words;
@@ -136,11 +136,11 @@ module _ (s : ScenarioParts) (old new : RunView) (h : Holds s old) (m : AdapterM
   now = actors_more s h.trace x 0 m.by
 
   rises : low_after (length old.turns) ≤ low_after (length new.turns)
-  rises = subst (λ (ts : List Turn). low_after (length old.turns) ≤ low_after (length ts)) (sym m.turns) (low_rises old.turns 0 (made_of m.note))
+  rises = subst (λ (ts : List TurnRecord). low_after (length old.turns) ≤ low_after (length ts)) (sym m.turns) (low_rises old.turns 0 (made_of m.note))
 
   low : CountsBelow (low_after (length new.turns)) (after_adapt s.lines w.adapter m.entry)
   low =
-      let up : low_after (length old.turns) + 4 ≤ low_after (length new.turns) = omega (arith, ap (λ (ts : List Turn). length ts) m.turns, one_more old.turns 0 (made_of m.note)) in
+      let up : low_after (length old.turns) + 4 ≤ low_after (length new.turns) = omega (arith, ap (λ (ts : List TurnRecord). length ts) m.turns, one_more old.turns 0 (made_of m.note)) in
       weaken_adapter (low_after (length old.turns) + 4) (low_after (length new.turns)) (after_adapt s.lines w.adapter m.entry) up
       (grow.next s.lines w.adapter m.entry (low_after (length old.turns)) (subst (CountsBelow (low_after (length old.turns))) h.stand.adapter.rule h.stand.adapter.low))
 
@@ -159,7 +159,7 @@ module _ (s : ScenarioParts) (old new : RunView) (h : Holds s old) (m : AdapterM
   pub adapter_holds : Holds s new
   adapter_holds = record {
     trace = h.trace ++ x ∷ [];
-    made = subst (λ (ts : List Turn). Made s ts (h.trace ++ x ∷ [])) (sym m.turns) (made_moves s old.turns h.trace h.made 0 x m.note may (record { going = refl; by = m.by }) fits);
+    made = subst (λ (ts : List TurnRecord). MadeTurns s ts (h.trace ++ x ∷ [])) (sym m.turns) (made_moves s old.turns h.trace h.made 0 x m.note may (record { going = refl; by = m.by }) fits);
     stand = record {
       adapter = subst (λ (v : Actors). IsAdapter s.lines v (length new.turns) new.adapter) (sym now) moved;
       thread_count = ap (λ (ts : List ThreadView). length ts) m.threads ∙ h.stand.thread_count;
@@ -204,7 +204,7 @@ module _ (s : ScenarioParts) (old new : RunView) (t : ℕ) (h : Holds s old) (m 
   now_all = actors_more s h.trace y (suc t) m.by
 
   up : low_after (length old.turns) + 64 ≡ low_after (length new.turns)
-  up = low_next old.turns (suc t) (made_of m.note) ∙ ap (λ (ts : List Turn). low_after (length ts)) (sym m.turns)
+  up = low_next old.turns (suc t) (made_of m.note) ∙ ap (λ (ts : List TurnRecord). low_after (length ts)) (sym m.turns)
 
   higher : low_after (length old.turns) ≤ low_after (length new.turns)
   higher = omega (arith, up)
@@ -236,7 +236,7 @@ module _ (s : ScenarioParts) (old new : RunView) (t : ℕ) (h : Holds s old) (m 
   pub thread_holds : Holds s new
   thread_holds = record {
     trace = h.trace ++ y ∷ [];
-    made = subst (λ (ts : List Turn). Made s ts (h.trace ++ y ∷ [])) (sym m.turns) (made_moves s old.turns h.trace h.made (suc t) y m.note may_thread makes fits_thread);
+    made = subst (λ (ts : List TurnRecord). MadeTurns s ts (h.trace ++ y ∷ [])) (sym m.turns) (made_moves s old.turns h.trace h.made (suc t) y m.note may_thread makes fits_thread);
     stand = record {
       adapter = subst (λ (v : Actors). IsAdapter s.lines v (length new.turns) new.adapter) (sym now_all)
           (subst (IsAdapter s.lines (after_by s.lines before_all (suc t) y) (length new.turns)) (sym m.adapter)

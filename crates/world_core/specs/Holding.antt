@@ -3,8 +3,8 @@ use Rattle.std.specs.Prelude.{ℕ, suc, ◌≡◌, ◌+◌, ◌*◌, ◌≤◌, 
 use Rattle.std.specs.List.{fold}
 use Rattle.bus_core.specs.Follow.{Follows}
 use Rattle.bus_core.specs.Mark.{Marked, entries}
-use Rattle.verbs_model.specs.declared.call.Call.{Call}
-use Rattle.verbs_model.specs.declared.declaration.Lines.{Lines}
+use Rattle.verbs_types.specs.declared.call.Call.{Call}
+use Rattle.verbs_types.specs.declared.declaration.Lines.{Lines}
 use Rattle.actor_map.specs.Sizes.{words_of}
 use Rattle.actor_map.specs.Start.{starts}
 use Rattle.object_places.specs.Objects.{Mark}
@@ -16,9 +16,9 @@ use Rattle.scenario_text.specs.declared.scenario.ScenarioParts.{ScenarioParts}
 use Rattle.scenario_text.specs.Limits.{turn_count}
 use Rattle.thread_actor.specs.Small.{IsBelow}
 use Rattle.thread_actor.specs.View.{ThreadView, thread_of}
-use Rattle.noted_history.specs.declared.log.Turn.{Turn}
+use Rattle.noted_history.specs.declared.log.TurnRecord.{TurnRecord}
 use Rattle.noted_history.specs.Marks.{marks_in}
-use Rattle.noted_history.specs.Told.{AreNotes, noted}
+use Rattle.noted_history.specs.OfNotes.{AreNotes, noted}
 use Rattle.world_core.specs.Outcome.{AreTurns, marks_of}
 use Rattle.world_core.specs.Run.{RunView}
 
@@ -42,11 +42,11 @@ pub record IsThreadOf (d : Lines) (w : Actors) (turns actor : ℕ) (thread : Thr
   pub rule : thread_of thread ≡ w.threads actor
   pub low : IsBelow (low_after turns) (thread_of thread)
 
-abbrev pub actor_of : Turn → ℕ
+abbrev pub actor_of : TurnRecord → ℕ
 actor_of t = t.actor
 
 -- the turns so far made these operations
-pub record Made (s : ScenarioParts) (turns : List Turn) (trace : List (Marked Mark)) : Type 0 where
+pub record MadeTurns (s : ScenarioParts) (turns : List TurnRecord) (trace : List (Marked Mark)) : Type 0 where
   pub keeps : Follows (MayAny s.lines) (after s.lines) (fresh_actors s.lines s.programs) trace
   pub turned : AreTurns s.lines (fresh_actors s.lines s.programs) (map actor_of turns) trace
   pub notes : AreNotes (noted turns) (history s.lines s.programs trace)
@@ -70,6 +70,6 @@ pub record HasBus (s : ScenarioParts) (v : RunView) (trace : List (Marked Mark))
 -- the run of a scenario so far
 pub record Holds (s : ScenarioParts) (v : RunView) : Type 0 where
   pub trace : List (Marked Mark)
-  pub made : Made s v.turns trace
+  pub made : MadeTurns s v.turns trace
   pub stand : Stand s v trace
   pub bus : HasBus s v trace

@@ -1,7 +1,7 @@
 -- What a run of a scenario leaves.
 use Rattle.std.specs.Prelude.{ℕ, zero, suc, ◌≡◌, ◌⊎◌, Bool, false, true, List, [], ◌∷◌, is_some}
 use Rattle.bus_core.specs.Mark.{Marked, entries}
-use Rattle.verbs_model.specs.declared.declaration.Lines.{Lines}
+use Rattle.verbs_types.specs.declared.declaration.Lines.{Lines}
 use Rattle.object_places.specs.Objects.{Mark}
 use Rattle.scenario_text.specs.declared.scenario.ScenarioParts.{ScenarioParts}
 use Rattle.actor_rules.specs.Actors.{Actors, fresh_actors, after, says}

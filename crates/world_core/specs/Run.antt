@@ -10,9 +10,9 @@ use Rattle.device_engine.specs.View.{ScanView, rule_of}
 use Rattle.thread_actor.specs.Small.{IsSmall}
 use Rattle.thread_actor.specs.Turn.{ThreadTurn}
 use Rattle.thread_actor.specs.View.{ThreadView}
-use Rattle.noted_history.specs.declared.log.Made.{Made}
-use Rattle.noted_history.specs.declared.log.Made.TheVariants.{Nothing, Operation, Entry}
-use Rattle.noted_history.specs.declared.log.Turn.{Turn}
+use Rattle.noted_history.specs.declared.log.TurnResult.{TurnResult}
+use Rattle.noted_history.specs.declared.log.TurnResult.TheVariants.{Nothing, Operation, Entry}
+use Rattle.noted_history.specs.declared.log.TurnRecord.{TurnRecord}
 
 pub record RunView : Type 0 where
   pub bus : Plain
@@ -20,7 +20,7 @@ pub record RunView : Type 0 where
   -- thread 1 is the first
   pub threads : List ThreadView
   -- what each turn made, and for how many turns there is room
-  pub turns : List Turn
+  pub turns : List TurnRecord
   pub capacity : ℕ
 
 -- What a turn asks
@@ -57,7 +57,7 @@ pub record CanOperate (threads : List ThreadView) (place : ℕ) (bus : Plain) : 
 -- What a turn makes
 
 -- what an operation made that has this note
-abbrev pub made_of : Option Note → Made
+abbrev pub made_of : Option Note → TurnResult
 made_of None = Operation
 made_of (Some note) = Entry note
 
@@ -65,7 +65,7 @@ made_of (Some note) = Entry note
 abbrev pub with_operation : Plain → ℕ → BusEntry → Plain
 with_operation bus actor e = record { actor = actor; start = bus.start; trace = bus.trace ++ e ∷ []; room = bus.room - 1 }
 
-abbrev pub with_turn : List Turn → ℕ → Made → List Turn
+abbrev pub with_turn : List TurnRecord → ℕ → TurnResult → List TurnRecord
 with_turn turns actor made = turns ++ record { actor = actor; made = made } ∷ []
 
 -- the adapter makes its next operation

@@ -1,8 +1,8 @@
 -- A run before its first turn.
 use Rattle.std.specs.Prelude.{ℕ, suc, ◌≡◌, ◌<◌, ◌≤◌, List, [], length, Some, slice_get, slice_index_or}
 use Rattle.bus_core.specs.Plain.{Plain}
-use Rattle.verbs_model.specs.declared.call.Call.{Call}
-use Rattle.verbs_model.specs.declared.declaration.Lines.{Lines}
+use Rattle.verbs_types.specs.declared.call.Call.{Call}
+use Rattle.verbs_types.specs.declared.declaration.Lines.{Lines}
 use Rattle.actor_map.specs.Sizes.{words_of}
 use Rattle.actor_map.specs.Start.{starts}
 use Rattle.device_engine.specs.First as device

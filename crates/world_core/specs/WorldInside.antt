@@ -1,8 +1,8 @@
 -- How the fields of a world are seen, and what they keep.
 use Rattle.std.specs.Prelude.{◌≡◌, List, map}
-use Rattle.verbs_model.specs.declared.call.Call.{Call}
-use Rattle.verbs_model.specs.Start.{start}
-use Rattle.verbs_model.specs.State.{Verbs}
+use Rattle.verbs_types.specs.declared.call.Call.{Call}
+use Rattle.verbs_rules.specs.Start.{start}
+use Rattle.verbs_rules.specs.State.{Verbs}
 use Rattle.verbs_model.specs.Tables.{state_of}
 use Rattle.scenario_text.specs.declared.scenario.Plan.{Plan}
 use Rattle.scenario_text.specs.declared.scenario.ScenarioParts.{ScenarioParts}

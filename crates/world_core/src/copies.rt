@@ -5,7 +5,7 @@ ghost use Rattle.bus_core.specs.Trace.{IsConsistent};
 use bus_core::{BusEntry, PlainBus};
 use scenario_text::Plan;
 use std::alloc::{AllocError, Global};
-use verbs_model::{Call, NoMemory, Receive, Request, Sequence};
+use verbs_types::{Call, NoMemory, Receive, Request, Sequence};
 
 /// The same calls of each thread.
 pub(crate) fn copy_of_programs(

@@ -7,9 +7,9 @@ ghost use Rattle.world_core.specs.RunInside.{run_view};
 use actor_map::Actor;
 use bus_core::{Note, PlainBus};
 use device_engine::Device;
-use noted_history::{Made, Turn};
+use noted_history::{TurnRecord, TurnResult};
 use thread_actor::ThreadActor;
-use verbs_model::ADAPTER;
+use verbs_types::ADAPTER;
 
 /// The adapter and the threads of a scenario over the words that they share, between two turns.
 #[derive(Drop)]
@@ -19,7 +19,7 @@ pub(crate) struct Run {
     /// The first is thread 1.
     pub threads: Vec<ThreadActor>,
     /// What each turn made.
-    pub turns: Vec<Turn>,
+    pub turns: Vec<TurnRecord>,
 }
 
 impl Run {
@@ -41,7 +41,7 @@ impl Run {
     {
         self.bus.set_actor(ADAPTER);
         let note = self.adapter.turn(&mut self.bus);
-        self.turns.push_reserved(Turn {
+        self.turns.push_reserved(TurnRecord {
             actor: ADAPTER,
             made: made_of(note),
         });
@@ -53,9 +53,9 @@ impl Run {
         ensures { ThreadMoves (run_view self.old) (run_view self.new) place ⊎ ThreadRests (run_view self.old) (run_view self.new) place }
     {
         if has_ended(self.threads.as_slice(), place as usize) {
-            self.turns.push_reserved(Turn {
+            self.turns.push_reserved(TurnRecord {
                 actor: place + 1,
-                made: Made::Nothing,
+                made: TurnResult::Nothing,
             });
         } else {
             self.operation_of_thread(place);
@@ -71,7 +71,7 @@ impl Run {
         let actor = place + 1;
         self.bus.set_actor(actor);
         let note = operation_at(self.threads.as_mut_slice(), place as usize, &mut self.bus);
-        self.turns.push_reserved(Turn {
+        self.turns.push_reserved(TurnRecord {
             actor,
             made: made_of(note),
         });
@@ -95,11 +95,11 @@ fn operation_at(threads: &mut [ThreadActor], place: usize, bus: &mut PlainBus) -
 }
 
 /// What an operation made that has this note.
-fn made_of(note: Option<Note>) -> Made
+fn made_of(note: Option<Note>) -> TurnResult
     ensures { result ≡ made note }
 {
     match note {
-        None => Made::Operation,
-        Some(note) => Made::Entry(note),
+        None => TurnResult::Operation,
+        Some(note) => TurnResult::Entry(note),
     }
 }

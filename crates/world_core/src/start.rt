@@ -12,12 +12,12 @@ use crate::turns::turns_of;
 use actor_map::{AddressMap, set_starts, words};
 use bus_core::PlainBus;
 use device_engine::Device;
-use noted_history::Turn;
+use noted_history::TurnRecord;
 use ready_scenarios::laws::ready;
 use scenario_text::Scenario;
 use std::alloc::Global;
 use thread_actor::ThreadActor;
-use verbs_model::{Call, Declared, NoMemory, Sequence};
+use verbs_types::{Call, Declared, NoMemory, Sequence};
 
 /// The start word of a scheduled run.
 const SCHEDULED: u64 = 1;
@@ -49,7 +49,7 @@ fn map_of_objects(alloc: Global, declared: &Declared) -> Result<AddressMap, NoMe
 }
 
 /// Room for `count` turns.
-fn room_for(alloc: Global, count: usize) -> Result<Vec<Turn>, NoMemory>
+fn room_for(alloc: Global, count: usize) -> Result<Vec<TurnRecord>, NoMemory>
     ensures none { IfOk result (λ turns. turns.items ≡ []) }
     ensures room { IfOk result (λ turns. count ≤ vec_capacity turns) }
 {

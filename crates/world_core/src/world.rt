@@ -19,7 +19,8 @@ use scenario_text::{Plan, PlanItem, Scenario};
 use std::alloc::Global;
 use std::marker::Model;
 use std::snapshot::Snapshot;
-use verbs_model::{ADAPTER, Abstract, Call, NoMemory, Sequence, start};
+use verbs_model::{Abstract, start};
+use verbs_types::{ADAPTER, Call, NoMemory, Sequence};
 
 /// The threads of a scenario and the adapter, over the words that they share, between two turns.
 #[derive(Drop)]

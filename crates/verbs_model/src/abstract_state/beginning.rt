@@ -3,17 +3,15 @@ ghost use Rattle.std.specs.Prelude.{◌≡◌, ◌+◌, ◌≤◌, IsTrue, IfOk,
 ghost use Rattle.std.specs.List.{list_any, list_all, flat_map, enumerate_from};
 ghost use Rattle.verbs_model.specs.Beginning.{both_queues, pair_from};
 ghost use Rattle.verbs_model.specs.Ends.{queue_of};
-ghost use Rattle.verbs_model.specs.Lines.{is_declared, is_qp_line, is_cq_line};
-ghost use Rattle.verbs_model.specs.Start as beginning;
+ghost use Rattle.verbs_types.specs.Lines.{is_declared, is_qp_line, is_cq_line};
+ghost use Rattle.verbs_rules.specs.Start as beginning;
 ghost use Rattle.verbs_model.specs.Tables.{state_of};
 
 use crate::abstract_state::Abstract;
 use crate::completion_queue::CompletionQueue;
-use crate::declaration::{Declared, FIRST_QP, Lines, QpLine};
-use crate::entry::NoMemory;
-use crate::state::{QpState, QueuePair};
 use crate::work_queue::WorkQueue;
 use std::alloc::{AllocError, Global};
+use verbs_types::{Declared, FIRST_QP, Lines, NoMemory, QpLine, QpState, QueuePair};
 
 /// The state in which a run begins: every declared object lives, nothing was posted, and the queue pairs
 /// that are connected may send.

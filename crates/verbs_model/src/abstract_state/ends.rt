@@ -3,11 +3,9 @@ ghost use Rattle.std.specs.Prelude.{◌≡◌, length, map, OnOk};
 ghost use Rattle.verbs_model.specs.Ends.{queue_of, ArePlaced, HaveRoom, ended};
 ghost use Rattle.verbs_model.specs.Tables as tables;
 
-use crate::completion::Queue;
-use crate::declaration::FIRST_QP;
-use crate::state::Unpolled;
 use crate::work_queue::WorkQueue;
 use std::alloc::AllocError;
+use verbs_types::{FIRST_QP, Queue, Unpolled};
 
 /// Where a queue stands that lives: the send queue of the queue pair at place i at 2i, its receive queue
 /// at 2i + 1.

@@ -1,18 +1,16 @@
 //! What an entry makes of the state.
 ghost use Rattle.std.specs.Prelude.{◌≡◌, ◌-◌, length, IsTrue, OnOk, OnErr};
-ghost use Rattle.verbs_model.specs.Rows as rows;
-ghost use Rattle.verbs_model.specs.Rules.{queue_lives, names_living};
-ghost use Rattle.verbs_model.specs.Same.{is_front};
+ghost use Rattle.verbs_rules.specs.Rows as rows;
+ghost use Rattle.verbs_rules.specs.Rules.{queue_lives, names_living};
+ghost use Rattle.verbs_rules.specs.Same.{is_front};
 ghost use Rattle.std.specs.List.{list_all};
 ghost use Rattle.verbs_model.specs.Tables.{state_of};
 
 use crate::abstract_state::Abstract;
 use crate::abstract_state::ends::{end_each, reserve_each};
-use crate::completion::{Completion, Queue};
-use crate::request::Item;
-use crate::state::Act;
 use crate::work::act_of;
 use std::alloc::AllocError;
+use verbs_types::{Act, Completion, Item, Queue};
 
 impl Abstract {
     /// The items are posted. Where memory runs out nothing has changed.

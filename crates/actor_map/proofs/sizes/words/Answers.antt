@@ -1,9 +1,9 @@
 use Rattle.std.proofs.Common.{◌≡◌, List, All, sym, ap, ◌∙◌, subst, arith}
 use Rattle.std.specs.List.{sum_by}
-use Rattle.verbs_model.specs.declared.declaration.CqLine.{CqLine}
-use Rattle.verbs_model.specs.declared.declaration.EqLine.{EqLine}
-use Rattle.verbs_model.specs.declared.declaration.QpLine.{QpLine}
-use Rattle.verbs_model.specs.declared.declaration.Lines.{Lines}
+use Rattle.verbs_types.specs.declared.declaration.CqLine.{CqLine}
+use Rattle.verbs_types.specs.declared.declaration.EqLine.{EqLine}
+use Rattle.verbs_types.specs.declared.declaration.QpLine.{QpLine}
+use Rattle.verbs_types.specs.declared.declaration.Lines.{Lines}
 use Rattle.actor_map.specs.Limits.{IsQpSize}
 use Rattle.actor_map.specs.Sizes.{cq_words, eq_words, qp_words}
 use Rattle.actor_map.proofs.Bounds.{cqs_small, eqs_small, limits_of, qps_small}

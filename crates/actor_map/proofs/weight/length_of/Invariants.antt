@@ -1,7 +1,7 @@
 -- The bytes of those passed so far.
 use Rattle.std.proofs.Common.{◌≡◌, take}
 use Rattle.std.specs.List.{sum_by}
-use Rattle.verbs_model.specs.declared.request.Sge.{Sge}
+use Rattle.verbs_types.specs.declared.request.Sge.{Sge}
 use Rattle.actor_map.specs.Weight.{capped}
 use Rattle.actor_map.proofs.weight.length_of.Given as goal
 

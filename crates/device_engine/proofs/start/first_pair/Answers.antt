@@ -1,6 +1,6 @@
 use Rattle.std.proofs.Common.{ap, ◌∙◌}
-use Rattle.verbs_model.specs.declared.declaration.Lines.{Lines}
-use Rattle.verbs_model.specs.Start.{is_connected}
+use Rattle.verbs_types.specs.declared.declaration.Lines.{Lines}
+use Rattle.verbs_rules.specs.Start.{is_connected}
 use Rattle.device_engine.proofs.Starting.{first_pair_is}
 use Rattle.device_engine.proofs.start.first_pair.Goals as goal
 

@@ -1,5 +1,5 @@
 use Rattle.std.proofs.Common.{◌≡◌, ℕ, ◌+◌, sym, ap, subst, arith, length}
-use Rattle.verbs_model.specs.declared.declaration.Lines.{Lines}
+use Rattle.verbs_types.specs.declared.declaration.Lines.{Lines}
 use Rattle.device_engine.specs.First.{AreFirstPairs}
 use Rattle.device_engine.proofs.Starting.{no_pairs, one_pair_more}
 use Rattle.device_engine.proofs.start.first_pairs.Goals as goal

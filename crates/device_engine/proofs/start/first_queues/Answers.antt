@@ -1,5 +1,5 @@
 use Rattle.std.proofs.Common.{◌≡◌, ℕ, ◌+◌, sym, ap, subst, arith, length}
-use Rattle.verbs_model.specs.declared.declaration.Lines.{Lines}
+use Rattle.verbs_types.specs.declared.declaration.Lines.{Lines}
 use Rattle.device_engine.specs.First.{AreFirstQueues}
 use Rattle.device_engine.proofs.Starting.{no_queues, one_queue_more}
 use Rattle.device_engine.proofs.start.first_queues.Goals as goal

@@ -1,6 +1,6 @@
 use Rattle.std.proofs.Common.{sym, ap, ◌∙◌, refl, subst, length, IsTrue}
-use Rattle.verbs_model.specs.declared.declaration.Lines.{Lines}
-use Rattle.verbs_model.specs.Lines.{is_declared}
+use Rattle.verbs_types.specs.declared.declaration.Lines.{Lines}
+use Rattle.verbs_types.specs.Lines.{is_declared}
 use Rattle.device_engine.specs.declared.scan.Work.TheVariants.{Ending}
 use Rattle.device_engine.specs.First.{AreFirstPairs, AreFirstQueues}
 use Rattle.device_engine.specs.State.{fresh_adapter}

@@ -1,8 +1,8 @@
 -- The operations and the entries of an outcome are of declared actors, and the entries name declared objects.
 use Rattle.std.proofs.Common.{◌≡◌, ◌∙◌, ◌++◌, ℕ, List, All, sym, ap, subst, length, Bool}
 use Rattle.bus_core.specs.declared.operation.BusEntry.{BusEntry}
-use Rattle.verbs_model.specs.declared.declaration.Lines.{Lines}
-use Rattle.verbs_model.specs.declared.entry.Entry.{Entry}
+use Rattle.verbs_types.specs.declared.declaration.Lines.{Lines}
+use Rattle.verbs_types.specs.declared.entry.Entry.{Entry}
 use Rattle.transcript_text.specs.History.{history_text}
 use Rattle.transcript_text.specs.Numbers.{IsEntry}
 use Rattle.transcript_text.specs.Trace.{IsOperation, trace_text}

@@ -1,15 +1,15 @@
 -- From turn to turn.
 use Rattle.std.proofs.Common.{◌≡◌, ℕ, ◌+◌, ◌<◌, List, [], ◌∷◌, ◌++◌, length, drop, get_or, sym, ap, subst, ◌∙◌, rules}
 use Rattle.std.proofs.lemmas.List.{length-replicate, drop_more, drop_all}
-use Rattle.verbs_model.specs.declared.call.Call.{Call}
-use Rattle.verbs_model.specs.declared.entry.Entry.{Entry}
+use Rattle.verbs_types.specs.declared.call.Call.{Call}
+use Rattle.verbs_types.specs.declared.entry.Entry.{Entry}
 use Rattle.verbs_model.specs.Tables.{state_of}
-use Rattle.noted_history.specs.declared.log.Made.TheVariants.{Nothing}
-use Rattle.noted_history.specs.declared.log.Turn.{Turn}
+use Rattle.noted_history.specs.declared.log.TurnResult.TheVariants.{Nothing}
+use Rattle.noted_history.specs.declared.log.TurnRecord.{TurnRecord}
 use Rattle.noted_history.specs.declared.posting.Posting.{Posting}
 use Rattle.noted_history.specs.declared.teller.Teller.{Teller}
 use Rattle.noted_history.specs.Telling.{Takes}
-use Rattle.noted_history.specs.Told.{Noted, note_by, IsTold}
+use Rattle.noted_history.specs.OfNotes.{Noted, note_by, HasNotes}
 use Rattle.noted_history.proofs.Standing.{Stands, stands_first, no_note, stands_over, IsNextOf, next_of, stands_next, all_told}
 use Rattle.noted_history.proofs.entries.history_of.Goals as goal
 
@@ -24,11 +24,11 @@ loop-turn-init c =
     )
 
 -- the turn at a place, and none past the end
-abbrev turn_at : List Turn → ℕ → Turn
+abbrev turn_at : List TurnRecord → ℕ → TurnRecord
 turn_at log i = get_or log i (record { actor = 0; made = Nothing })
 
-at_turn : (t : Teller) (programs : List (List Call)) (log : List Turn) (i : ℕ) (history h : List Entry) → i < length log → Stands t programs (drop i log) history h → Stands t programs (turn_at log i ∷ drop (i + 1) log) history h
-at_turn t programs log i history h inside = subst (λ (ts : List Turn). Stands t programs ts history h) (drop_more log i (record { actor = 0; made = Nothing }) inside)
+at_turn : (t : Teller) (programs : List (List Call)) (log : List TurnRecord) (i : ℕ) (history h : List Entry) → i < length log → Stands t programs (drop i log) history h → Stands t programs (turn_at log i ∷ drop (i + 1) log) history h
+at_turn t programs log i history h inside = subst (λ (ts : List TurnRecord). Stands t programs ts history h) (drop_more log i (record { actor = 0; made = Nothing }) inside)
 
 pub loop-turn-preserved-in_default : goal.loop-turn-preserved-in_default
 loop-turn-preserved-in_default c =
@@ -66,9 +66,9 @@ loop-turn-preserved c =
     let history = c.loop-turn.history.items in
     let turn = turn_at log i in
     let n : Noted = record { actor = turn.actor; note = c.in-Entry.note } in
-    let stands : (h : List Entry) → IsTold (state_of c.args.first) programs log h → Stands teller programs (turn ∷ drop (i + 1) log) history h = λ h told. at_turn teller programs log i history h c.loop-turn-test.true (c.loop-turn.invariant.1 h told) in
-    let next : (h : List Entry) (told : IsTold (state_of c.args.first) programs log h) → IsNextOf teller programs n (drop (i + 1) log) (stands h told).rest = λ h told. next_of teller programs turn n (drop (i + 1) log) history h (ap (note_by turn.actor) c.in-Entry.is) (stands h told) in
-    let takes : (h : List Entry) (told : IsTold (state_of c.args.first) programs log h) → Takes teller c.entry.new.self programs (next h told).entry c.in_ok-entry.entry = λ h told. c.in_ok-entry.ensures (next h told).entry (next h told).tells in
+    let stands : (h : List Entry) → HasNotes (state_of c.args.first) programs log h → Stands teller programs (turn ∷ drop (i + 1) log) history h = λ h told. at_turn teller programs log i history h c.loop-turn-test.true (c.loop-turn.invariant.1 h told) in
+    let next : (h : List Entry) (told : HasNotes (state_of c.args.first) programs log h) → IsNextOf teller programs n (drop (i + 1) log) (stands h told).rest = λ h told. next_of teller programs turn n (drop (i + 1) log) history h (ap (note_by turn.actor) c.in-Entry.is) (stands h told) in
+    let takes : (h : List Entry) (told : HasNotes (state_of c.args.first) programs log h) → Takes teller c.entry.new.self programs (next h told).entry c.in_ok-entry.entry = λ h told. c.in_ok-entry.ensures (next h told).entry (next h told).tells in
     let pushed : c.push.new.self.items ≡ history ++ c.in_ok-entry.entry ∷ [] = search rules in (
       (takes c.requires.told.0 c.requires.told.1).moves.threads ∙ c.loop-turn.invariant.0,
       λ h told.
@@ -79,5 +79,5 @@ loop-turn-preserved c =
 pub returns : goal.returns
 returns c = record {
   told = λ h told. all_told c.loop-turn.teller c.args.programs.now c.loop-turn.history.items h
-      (subst (λ (ts : List Turn). Stands c.loop-turn.teller c.args.programs.now ts c.loop-turn.history.items h) (drop_all c.loop-turn.turn-index c.args.log.now c.loop-turn-test.false) (c.loop-turn.invariant.1 h told));
+      (subst (λ (ts : List TurnRecord). Stands c.loop-turn.teller c.args.programs.now ts c.loop-turn.history.items h) (drop_all c.loop-turn.turn-index c.args.log.now c.loop-turn-test.false) (c.loop-turn.invariant.1 h told));
 }

@@ -3,14 +3,14 @@ use Rattle.std.proofs.Common.{◌≡◌, ℕ, ◌+◌, ◌<◌, List, [], ◌∷
 use Rattle.std.specs.List.{cons_option}
 use Rattle.std.proofs.lemmas.List.{take_more, append-nil}
 use Rattle.std.proofs.lemmas.List.Elements.{filter_map-append}
-use Rattle.noted_history.specs.declared.log.Turn.{Turn}
+use Rattle.noted_history.specs.declared.log.TurnRecord.{TurnRecord}
 use Rattle.noted_history.specs.Marks.{mark_of, marks_in}
 use Rattle.noted_history.proofs.marks.marks_of.Goals as goal
 use Rattle.noted_history.proofs.marks.marks_of.Goals.{in-Some, in_default}
 
-marks_more : (log : List Turn) (i : ℕ) (t : Turn) (mark : Option Bool) → i < length log → mark ≡ mark_of (get_or log i t).made → marks_in (take (i + 1) log) ≡ marks_in (take i log) ++ cons_option mark []
+marks_more : (log : List TurnRecord) (i : ℕ) (t : TurnRecord) (mark : Option Bool) → i < length log → mark ≡ mark_of (get_or log i t).made → marks_in (take (i + 1) log) ≡ marks_in (take i log) ++ cons_option mark []
 marks_more log i t mark inside read =
-    ap marks_in (take_more log i t inside) ∙ (filter_map-append (λ (u : Turn). mark_of u.made) (take i log) (get_or log i t ∷ []) ∙ ap (λ (o : Option Bool). marks_in (take i log) ++ cons_option o []) (sym read))
+    ap marks_in (take_more log i t inside) ∙ (filter_map-append (λ (u : TurnRecord). mark_of u.made) (take i log) (get_or log i t ∷ []) ∙ ap (λ (o : Option Bool). marks_in (take i log) ++ cons_option o []) (sym read))
 
 pub loop-turn-preserved : goal.loop-turn-preserved
 loop-turn-preserved c =

@@ -1,6 +1,6 @@
 -- Those passed so far are taken.
 use Rattle.std.proofs.Common.{◌≡◌, take, map}
-use Rattle.verbs_model.specs.declared.state.Unpolled.{Unpolled}
+use Rattle.verbs_types.specs.declared.state.Unpolled.{Unpolled}
 use Rattle.noted_history.proofs.numbers.first_unpolled.Given as goal
 
 abbrev pub invariant-loop-unpolled : goal.invariant-loop-unpolled

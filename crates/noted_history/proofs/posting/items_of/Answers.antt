@@ -2,9 +2,9 @@
 use Rattle.std.proofs.Common.{◌≡◌, ℕ, List, [], ◌∷◌, length, map, take, min, sym, ap, ◌∙◌}
 use Rattle.std.proofs.lemmas.List.{take-map, take_min}
 use Rattle.std.proofs.lemmas.Result.{IfOk-weaker}
-use Rattle.verbs_model.specs.declared.call.Call.{Call}
-use Rattle.verbs_model.specs.declared.request.Item.{Item}
-use Rattle.verbs_model.specs.declared.request.Item.TheVariants.{Request as TheRequest, Receive as TheReceive}
+use Rattle.verbs_types.specs.declared.call.Call.{Call}
+use Rattle.verbs_types.specs.declared.request.Item.{Item}
+use Rattle.verbs_types.specs.declared.request.Item.TheVariants.{Request as TheRequest, Receive as TheReceive}
 use Rattle.noted_history.specs.Posting.{list_of}
 use Rattle.noted_history.proofs.posting.items_of.Goals as goal
 

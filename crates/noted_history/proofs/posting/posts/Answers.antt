@@ -1,6 +1,6 @@
 -- A call that posts has one list.
 use Rattle.std.proofs.Common.{map, ap}
-use Rattle.verbs_model.specs.declared.request.Item.TheVariants.{Request as TheRequest, Receive as TheReceive}
+use Rattle.verbs_types.specs.declared.request.Item.TheVariants.{Request as TheRequest, Receive as TheReceive}
 use Rattle.noted_history.specs.Posting.{list_of}
 use Rattle.noted_history.proofs.posting.posts.Goals as goal
 

@@ -1,6 +1,6 @@
 -- Those passed so far are items.
 use Rattle.std.proofs.Common.{◌≡◌, take, map}
-use Rattle.verbs_model.specs.declared.request.Item.TheVariants.{Receive as TheReceive}
+use Rattle.verbs_types.specs.declared.request.Item.TheVariants.{Receive as TheReceive}
 use Rattle.noted_history.proofs.posting.receives_of.Given as goal
 
 abbrev pub invariant-loop-receive : goal.invariant-loop-receive

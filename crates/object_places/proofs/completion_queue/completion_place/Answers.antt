@@ -1,5 +1,5 @@
 use Rattle.std.proofs.Common.{◌+◌, ◌≤◌, sym, subst, arith}
-use Rattle.verbs_model.specs.declared.declaration.CqLine.{CqLine}
+use Rattle.verbs_types.specs.declared.declaration.CqLine.{CqLine}
 use Rattle.owner_ring.specs.Place.{IsPlace}
 use Rattle.actor_map.specs.Sizes.{cq_words, words_of}
 use Rattle.cq_pair.specs.declared.place.CqPlace.{CqPlace}

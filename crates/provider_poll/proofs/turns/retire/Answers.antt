@@ -1,5 +1,5 @@
 use Rattle.std.proofs.Common.{◌≡◌, subst}
-use Rattle.provider_poll.specs.Turned.{after_retire}
+use Rattle.provider_poll.specs.PollStep.{after_retire}
 use Rattle.provider_poll.proofs.turns.retire.Goals as goal
 
 pub returns : goal.returns

@@ -1,7 +1,7 @@
 use Rattle.std.proofs.Common.{◌≡◌, ◌%◌, ◌^◌, ◌∙◌, sym, map, ap, subst, Some}
 use Rattle.std.specs.Prelude.{slice_get}
-use Rattle.verbs_model.specs.declared.completion.Queue.{Queue}
-use Rattle.verbs_model.specs.declared.request.Item.TheVariants.{Request as TheRequest}
+use Rattle.verbs_types.specs.declared.completion.Queue.{Queue}
+use Rattle.verbs_types.specs.declared.request.Item.TheVariants.{Request as TheRequest}
 use Rattle.counted_ring.specs.Place.{entry_words}
 use Rattle.counted_ring.specs.PosterView.{Posting}
 use Rattle.provider_post.specs.Side.{IsNext}

@@ -1,7 +1,7 @@
 use Rattle.std.proofs.Common.{◌≡◌, ℕ, ◌≤◌, length, ◌∙◌, sym, map, subst, Some}
 use Rattle.std.specs.Prelude.{slice_get}
-use Rattle.verbs_model.specs.declared.completion.Queue.{Queue}
-use Rattle.verbs_model.specs.declared.request.Item.TheVariants.{Receive as TheReceive}
+use Rattle.verbs_types.specs.declared.completion.Queue.{Queue}
+use Rattle.verbs_types.specs.declared.request.Item.TheVariants.{Receive as TheReceive}
 use Rattle.work_entries.specs.Receive.{room_of}
 use Rattle.counted_ring.specs.Place.{entry_words}
 use Rattle.counted_ring.specs.PosterView.{Posting}

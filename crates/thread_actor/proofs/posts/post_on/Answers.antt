@@ -1,7 +1,7 @@
 use Rattle.std.proofs.Common.{ℕ, sym, subst, map}
 use Rattle.std.proofs.lemmas.List.{length-map}
-use Rattle.verbs_model.specs.declared.request.Item.{Item}
-use Rattle.verbs_model.specs.declared.request.Item.TheVariants.{Request as TheRequest}
+use Rattle.verbs_types.specs.declared.request.Item.{Item}
+use Rattle.verbs_types.specs.declared.request.Item.TheVariants.{Request as TheRequest}
 use Rattle.provider_post.specs.Side.{PostView, IsListOf}
 use Rattle.thread_actor.specs.Posts.{begun}
 use Rattle.thread_actor.proofs.Beginning.{begun_list}

@@ -1,6 +1,6 @@
 use Rattle.std.proofs.Common.{◌≤◌, ◌<◌, drop, length, sym, ◌∙◌, arith}
 use Rattle.std.proofs.lemmas.List.{drop_all, length-drop}
-use Rattle.verbs_model.proofs.Sameness.{is_front-nil}
+use Rattle.verbs_laws.proofs.Sameness.{is_front-nil}
 use Rattle.verbs_model.proofs.rules.is_front.Goals as goal
 
 pub returns-in_default-2 : goal.returns-in_default-2

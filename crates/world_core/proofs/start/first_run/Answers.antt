@@ -1,7 +1,7 @@
 -- The scenario is ready, and all that it needs is new.
 use Rattle.std.proofs.Common.{◌≡◌, ◌≤◌, ◌^◌, ◌∙◌, sym, ap, subst, arith, ℕ, List, length, vec_capacity}
-use Rattle.verbs_model.specs.declared.call.Call.{Call}
-use Rattle.verbs_model.specs.declared.declaration.Lines.{Lines}
+use Rattle.verbs_types.specs.declared.call.Call.{Call}
+use Rattle.verbs_types.specs.declared.declaration.Lines.{Lines}
 use Rattle.actor_map.specs.Sizes.{words_of}
 use Rattle.device_engine.specs.First as device
 use Rattle.scenario_text.specs.declared.scenario.Plan.{Plan}

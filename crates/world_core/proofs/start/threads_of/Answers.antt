@@ -1,6 +1,6 @@
 -- One more thread, of the next program.
 use Rattle.std.proofs.Common.{◌≡◌, ◌∙◌, sym, ap, subst, arith, ℕ, suc, ◌+◌, List, [], ◌∷◌, ◌++◌, length, length-append, Some, slice_get, slice_index_or}
-use Rattle.verbs_model.specs.declared.call.Call.{Call}
+use Rattle.verbs_types.specs.declared.call.Call.{Call}
 use Rattle.thread_actor.specs.Fresh.{IsFresh}
 use Rattle.thread_actor.specs.View.{ThreadView}
 use Rattle.world_core.proofs.FirstBus.{pushed, any_default}

@@ -1,10 +1,10 @@
 use Rattle.std.proofs.Common.{◌≡◌, List, All, ◌++◌, length, map, refl, sym, ap, ◌∙◌, subst, arith}
 use Rattle.std.specs.List.{sum_by}
 use Rattle.std.proofs.lemmas.List.Sums.{sum-map}
-use Rattle.verbs_model.specs.declared.declaration.CqLine.{CqLine}
-use Rattle.verbs_model.specs.declared.declaration.EqLine.{EqLine}
-use Rattle.verbs_model.specs.declared.declaration.QpLine.{QpLine}
-use Rattle.verbs_model.specs.declared.declaration.Lines.{Lines}
+use Rattle.verbs_types.specs.declared.declaration.CqLine.{CqLine}
+use Rattle.verbs_types.specs.declared.declaration.EqLine.{EqLine}
+use Rattle.verbs_types.specs.declared.declaration.QpLine.{QpLine}
+use Rattle.verbs_types.specs.declared.declaration.Lines.{Lines}
 use Rattle.actor_map.specs.declared.sizes.TheConstants.{FIRST_OBJECT}
 use Rattle.actor_map.specs.Limits.{IsQpSize}
 use Rattle.actor_map.specs.Sizes.{cq_words, eq_words, firsts, qp_words, sizes}

@@ -1,6 +1,6 @@
 use Rattle.std.proofs.Common.{subst}
 use Rattle.device_engine.specs.declared.scan.Work.TheVariants as works
-use Rattle.device_engine.specs.declared.told.Comes.{Comes}
+use Rattle.device_engine.specs.declared.outcome.NextWork.{NextWork}
 use Rattle.device_engine.specs.Scan.{CanGo, Idle, IsScan, task_before}
 use Rattle.device_engine.specs.View.{scan_of}
 use Rattle.device_engine.proofs.Kept.{rework}
@@ -10,6 +10,6 @@ pub returns-in-Record-clause-standing : goal.returns-in-Record-clause-standing
 returns-in-Record-clause-standing c =
     let v = scan_of c.args.self.now in
     record {
-      scan = rework v works.Recording Idle (subst (λ (x : Comes). IsScan v (task_before x v)) c.in-Record.is c.requires.scan);
+      scan = rework v works.Recording Idle (subst (λ (x : NextWork). IsScan v (task_before x v)) c.in-Record.is c.requires.scan);
       there = subst (CanGo v) c.in-Record.is c.requires.can;
     }

@@ -1,5 +1,5 @@
 use Rattle.std.proofs.Common.{◌+◌}
-use Rattle.verbs_model.specs.declared.declaration.TheConstants.{FIRST_QP}
+use Rattle.verbs_types.specs.declared.declaration.TheConstants.{FIRST_QP}
 use Rattle.device_engine.specs.declared.scan.Work.TheVariants as works
 use Rattle.device_engine.specs.View.{scan_of}
 use Rattle.device_engine.proofs.Reading.{can_read, read_operates}

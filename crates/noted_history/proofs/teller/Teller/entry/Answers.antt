@@ -1,12 +1,12 @@
 -- What was told has a step, and so it is what the note tells.
 use Rattle.std.proofs.Common.{◌≡◌, ℕ, sym, ap, subst, ◌∙◌}
-use Rattle.verbs_model.specs.declared.completion.Queue.{Queue}
-use Rattle.verbs_model.specs.declared.entry.What.{What}
-use Rattle.verbs_model.specs.declared.entry.What.TheVariants.{PostFull}
-use Rattle.verbs_model.specs.State.{Verbs}
-use Rattle.verbs_model.specs.Step.{MayStep, after_entry}
+use Rattle.verbs_types.specs.declared.completion.Queue.{Queue}
+use Rattle.verbs_types.specs.declared.entry.What.{What}
+use Rattle.verbs_types.specs.declared.entry.What.TheVariants.{PostFull}
+use Rattle.verbs_rules.specs.State.{Verbs}
+use Rattle.verbs_rules.specs.Step.{MayStep, after_entry}
 use Rattle.verbs_model.specs.Tables.{Tables, state_of}
-use Rattle.verbs_model.proofs.Facts.{MayPostFull_by_step}
+use Rattle.verbs_laws.proofs.Facts.{MayPostFull_by_step}
 use Rattle.noted_history.specs.Telling.{IsSameButTail}
 use Rattle.noted_history.proofs.teller.Teller.entry.Goals as goal
 

@@ -1,8 +1,8 @@
 -- A post is that of the next list of its thread.
 use Rattle.std.proofs.Common.{◌≡◌, ℕ, suc, ◌-◌, List, take, refl, sym, ap, ap₂, ◌∙◌, arith}
-use Rattle.verbs_model.specs.declared.call.Call.{Call}
-use Rattle.verbs_model.specs.declared.entry.Entry.{Entry}
-use Rattle.verbs_model.specs.declared.entry.What.TheVariants.{Post}
+use Rattle.verbs_types.specs.declared.call.Call.{Call}
+use Rattle.verbs_types.specs.declared.entry.Entry.{Entry}
+use Rattle.verbs_types.specs.declared.entry.What.TheVariants.{Post}
 use Rattle.verbs_model.specs.Tables.{state_of}
 use Rattle.bus_core.specs.declared.turn.Note.{Note}
 use Rattle.actor_map.specs.declared.note.TheConstants.{POST}

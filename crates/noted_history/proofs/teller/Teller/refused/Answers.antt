@@ -1,9 +1,9 @@
 -- A full queue is that of the next list of its thread.
 use Rattle.std.proofs.Common.{◌≡◌, ℕ, suc, ◌-◌, List, refl, sym, subst, arith}
 use Rattle.bus_core.specs.declared.turn.Note.{Note}
-use Rattle.verbs_model.specs.declared.call.Call.{Call}
-use Rattle.verbs_model.specs.declared.entry.Entry.{Entry}
-use Rattle.verbs_model.specs.declared.entry.What.TheVariants.{PostFull}
+use Rattle.verbs_types.specs.declared.call.Call.{Call}
+use Rattle.verbs_types.specs.declared.entry.Entry.{Entry}
+use Rattle.verbs_types.specs.declared.entry.What.TheVariants.{PostFull}
 use Rattle.verbs_model.specs.Tables.{state_of}
 use Rattle.actor_map.specs.declared.note.TheConstants.{POST_FULL}
 use Rattle.noted_history.specs.declared.teller.Teller.{Teller}

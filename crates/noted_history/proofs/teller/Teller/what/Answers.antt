@@ -1,12 +1,12 @@
 -- What an entry says, by the kind of its note.
 use Rattle.std.proofs.Common.{◌≡◌, ℕ, List, length, map, take, min, refl, sym, ap, ◌∙◌, arith}
 use Rattle.std.proofs.lemmas.List.{length-map, length-take, take_min}
-use Rattle.verbs_model.specs.declared.completion.Completion.{Completion}
-use Rattle.verbs_model.specs.declared.entry.What.TheVariants.{Poll, Publish}
-use Rattle.verbs_model.specs.declared.state.Unpolled.{Unpolled}
+use Rattle.verbs_types.specs.declared.completion.Completion.{Completion}
+use Rattle.verbs_types.specs.declared.entry.What.TheVariants.{Poll, Publish}
+use Rattle.verbs_types.specs.declared.state.Unpolled.{Unpolled}
 use Rattle.verbs_model.specs.Tables.{state_of}
-use Rattle.verbs_model.specs.declared.call.Call.{Call}
-use Rattle.verbs_model.specs.declared.entry.Entry.{Entry}
+use Rattle.verbs_types.specs.declared.call.Call.{Call}
+use Rattle.verbs_types.specs.declared.entry.Entry.{Entry}
 use Rattle.bus_core.specs.declared.turn.Note.{Note}
 use Rattle.noted_history.specs.declared.teller.Teller.{Teller}
 use Rattle.noted_history.specs.Telling.{Tells}

@@ -4,7 +4,7 @@ use Rattle.cq_pair.specs.declared.place.CqPlace.{CqPlace}
 use Rattle.provider_poll.specs.declared.state.PollState.{PollState}
 use Rattle.provider_poll.specs.declared.state.PollState.TheVariants.{LookingUp, Retiring}
 use Rattle.provider_poll.specs.declared.state.End.{End}
-use Rattle.provider_poll.specs.declared.turned.Turned.{Turned}
+use Rattle.provider_poll.specs.declared.poll_step.PollStep.{PollStep}
 use Rattle.provider_poll.specs.Turns.{LooksUp}
 use Rattle.provider_poll.specs.Poll.{PollView, PollTurn}
 use Rattle.provider_poll.specs.PollInside.{IsAtWork}
@@ -23,7 +23,7 @@ invariant_of-self g c =
     record {
       number = c.self.invariant.number ∙ sym (ap (λ (p : CqPlace). p.number) l.host_turn.place);
       entry = fits.entry;
-      work = subst (λ (t : Turned). IsAtWork c.look-turned.new.host c.self.inside.queues t.state) (sym l.turned_is)
+      work = subst (λ (t : PollStep). IsAtWork c.look-turned.new.host c.self.inside.queues t.state) (sym l.turned_is)
           (looks c.look-turned.new.host c.self.inside.queues c.self.inside.number c.in-Polling.max c.look-turned.new.host.seen c.in-Polling.ends work.few work.more _ l.step work.next fits l.host_turn.task);
     }
 

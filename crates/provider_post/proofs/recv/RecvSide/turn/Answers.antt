@@ -1,6 +1,6 @@
 use Rattle.std.proofs.Common.{map, subst, sym}
 use Rattle.std.specs.Prelude.{IsSome}
-use Rattle.verbs_model.specs.declared.request.Item.TheVariants.{Receive as TheReceive}
+use Rattle.verbs_types.specs.declared.request.Item.TheVariants.{Receive as TheReceive}
 use Rattle.provider_post.specs.Side.{PostView, PostTurn}
 use Rattle.provider_post.proofs.Items.{posted}
 use Rattle.provider_post.proofs.recv.RecvSide.turn.Goals as goal

@@ -1,5 +1,5 @@
 use Rattle.std.proofs.Common.{◌-◌, ℕ, Some, ap, ◌∙◌, List, length}
-use Rattle.verbs_model.specs.declared.declaration.TheConstants.{FIRST_QP}
+use Rattle.verbs_types.specs.declared.declaration.TheConstants.{FIRST_QP}
 use Rattle.scenario_text.specs.AfterCalls as after
 use Rattle.scenario_text.specs.Sofar.{Said, view_of}
 use Rattle.scenario_text.specs.declared.sofar.PairUse.{PairUse}

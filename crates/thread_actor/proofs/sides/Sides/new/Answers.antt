@@ -1,6 +1,6 @@
 use Rattle.std.proofs.Common.{◌≡◌, ℕ, ◌<◌, ◌+◌, ◌≤◌, refl, List, length, slice_get, Some, arith}
 use Rattle.std.proofs.lemmas.Option.{slice_get_read, slice_get_within}
-use Rattle.verbs_model.specs.declared.call.Call.{Call}
+use Rattle.verbs_types.specs.declared.call.Call.{Call}
 use Rattle.thread_actor.specs.Inside.{sides_of}
 use Rattle.thread_actor.specs.Stands.{HasSide}
 use Rattle.thread_actor.proofs.Adding.{has_more, each_from}

@@ -1,6 +1,6 @@
 use Rattle.std.proofs.Common.{refl, subst, List}
 use Rattle.std.specs.List.{AllByRecursion}
-use Rattle.verbs_model.specs.declared.call.Call.{Call}
+use Rattle.verbs_types.specs.declared.call.Call.{Call}
 use Rattle.thread_actor.specs.Inside.{sides_of}
 use Rattle.thread_actor.specs.Stands.{HasSide}
 use Rattle.thread_actor.proofs.Starting.{is_fresh, is_thread}

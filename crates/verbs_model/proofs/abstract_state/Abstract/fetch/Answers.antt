@@ -1,10 +1,10 @@
 use Rattle.std.proofs.Common.{◌≡◌, ◌-◌, ◌<◌, length, sym, ap, ◌∙◌, subst, true, Option, option_to_list, slice_get}
-use Rattle.verbs_model.specs.declared.request.Item.{Item}
-use Rattle.verbs_model.specs.declared.completion.Queue.{Queue}
-use Rattle.verbs_model.specs.declared.completion.Queue.TheVariants.{Send}
-use Rattle.verbs_model.specs.Rows.{acts_of}
-use Rattle.verbs_model.specs.Rules.{queue_lives}
-use Rattle.verbs_model.specs.State.{WorkQueue}
+use Rattle.verbs_types.specs.declared.request.Item.{Item}
+use Rattle.verbs_types.specs.declared.completion.Queue.{Queue}
+use Rattle.verbs_types.specs.declared.completion.Queue.TheVariants.{Send}
+use Rattle.verbs_rules.specs.Rows.{acts_of}
+use Rattle.verbs_rules.specs.Rules.{queue_lives}
+use Rattle.verbs_rules.specs.State.{WorkQueue}
 use Rattle.verbs_model.specs.Tables.{Tables, state_of, queue_at, pair_at, pair_is_in}
 use Rattle.verbs_model.proofs.Places.{fetched}
 use Rattle.verbs_model.proofs.abstract_state.Abstract.fetch.Goals as goal

@@ -1,7 +1,7 @@
 use Rattle.std.proofs.Common.{sym, ap, ◌∙◌, List}
-use Rattle.verbs_model.specs.declared.request.Item.{Item}
-use Rattle.verbs_model.specs.Rows.{with_queue, post}
-use Rattle.verbs_model.specs.Step.{after}
+use Rattle.verbs_types.specs.declared.request.Item.{Item}
+use Rattle.verbs_rules.specs.Rows.{with_queue, post}
+use Rattle.verbs_rules.specs.Step.{after}
 use Rattle.verbs_model.specs.Tables.{state_of}
 use Rattle.verbs_model.proofs.abstract_state.Abstract.make.Goals as goal
 

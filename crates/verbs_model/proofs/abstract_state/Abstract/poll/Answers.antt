@@ -2,13 +2,13 @@ use Rattle.std.proofs.Common.{◌≡◌, ℕ, ◌*◌, length, take, map, sym, �
 use Rattle.std.specs.List.{list_all}
 use Rattle.std.specs.Vec.{with_items}
 use Rattle.std.proofs.lemmas.List.{with_items_is, length-map}
-use Rattle.verbs_model.specs.declared.state.Unpolled.{Unpolled}
+use Rattle.verbs_types.specs.declared.state.Unpolled.{Unpolled}
 use Rattle.verbs_model.specs.Ends.{ArePlaced, HaveRoom, queue_of, ended}
 use Rattle.verbs_model.specs.Held.{Held}
 use Rattle.verbs_model.specs.InsideAbstract.{tables}
-use Rattle.verbs_model.specs.Rules.{names_living}
-use Rattle.verbs_model.specs.Same.{is_front}
-use Rattle.verbs_model.specs.State.{WorkQueue, CompletionQueue}
+use Rattle.verbs_rules.specs.Rules.{names_living}
+use Rattle.verbs_rules.specs.Same.{is_front}
+use Rattle.verbs_rules.specs.State.{WorkQueue, CompletionQueue}
 use Rattle.verbs_model.specs.Tables.{Tables, completions_at, completions_are_in, state_of}
 use Rattle.verbs_model.proofs.Polls.{front_length, front_within, living_front, placed_by_living, read_completions, state_of-polled}
 use Rattle.verbs_model.proofs.abstract_state.Abstract.poll.Goals as goal

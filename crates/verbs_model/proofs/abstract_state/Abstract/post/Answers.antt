@@ -1,8 +1,8 @@
 use Rattle.std.proofs.Common.{◌≡◌, ◌<◌, length, sym, subst, true}
 use Rattle.std.proofs.lemmas.Result.{on_ok_weaker, on_err_weaker}
-use Rattle.verbs_model.specs.Rows.{post}
-use Rattle.verbs_model.specs.Rules.{queue_lives}
-use Rattle.verbs_model.specs.State.{WorkQueue}
+use Rattle.verbs_rules.specs.Rows.{post}
+use Rattle.verbs_rules.specs.Rules.{queue_lives}
+use Rattle.verbs_rules.specs.State.{WorkQueue}
 use Rattle.verbs_model.specs.Tables.{Tables, state_of}
 use Rattle.verbs_model.proofs.Places.{changed_queue, kept_queue}
 use Rattle.verbs_model.proofs.abstract_state.Abstract.post.Goals as goal

@@ -1,7 +1,7 @@
 use Rattle.std.proofs.Common.{◌≡◌, ◌<◌, length, sym, subst, true}
-use Rattle.verbs_model.specs.Rows.{retire}
-use Rattle.verbs_model.specs.Rules.{queue_lives}
-use Rattle.verbs_model.specs.State.{WorkQueue}
+use Rattle.verbs_rules.specs.Rows.{retire}
+use Rattle.verbs_rules.specs.Rules.{queue_lives}
+use Rattle.verbs_rules.specs.State.{WorkQueue}
 use Rattle.verbs_model.specs.Tables.{Tables, state_of}
 use Rattle.verbs_model.proofs.Places.{changed_queue}
 use Rattle.verbs_model.proofs.abstract_state.Abstract.retire.Goals as goal

@@ -1,5 +1,5 @@
 use Rattle.std.proofs.Common.{ap, ◌∙◌}
-use Rattle.verbs_model.specs.Start.{start}
+use Rattle.verbs_rules.specs.Start.{start}
 use Rattle.verbs_model.proofs.abstract_state.beginning.start.Goals as goal
 
 pub returns-in-Ok : goal.returns-in-Ok

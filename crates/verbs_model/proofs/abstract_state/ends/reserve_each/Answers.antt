@@ -1,7 +1,7 @@
 use Rattle.std.proofs.Common.{ℕ, ◌<◌, ◌≤◌, length, get_or, take, set, ap, ◌∙◌, subst, sym, arith, le_refl}
 use Rattle.std.proofs.lemmas.List.{take_all}
 use Rattle.std.proofs.lemmas.List.Elements.{All-more}
-use Rattle.verbs_model.specs.declared.state.Unpolled.{Unpolled}
+use Rattle.verbs_types.specs.declared.state.Unpolled.{Unpolled}
 use Rattle.verbs_model.specs.Held.{Held}
 use Rattle.verbs_model.specs.Ends.{HaveRoom, no_held}
 use Rattle.verbs_model.specs.Tables.{place_of}

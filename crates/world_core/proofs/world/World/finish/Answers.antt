@@ -1,10 +1,10 @@
 -- The operations are a run, whose history is legal, and so the one that the notes tell.
 use Rattle.std.proofs.Common.{◌≡◌, ◌∙◌, sym, ap, subst, List}
-use Rattle.verbs_model.specs.declared.entry.Entry.{Entry}
+use Rattle.verbs_types.specs.declared.entry.Entry.{Entry}
 use Rattle.actor_rules.specs.Run.{history}
-use Rattle.noted_history.specs.declared.log.Turn.{Turn}
+use Rattle.noted_history.specs.declared.log.TurnRecord.{TurnRecord}
 use Rattle.noted_history.specs.Marks.{marks_in}
-use Rattle.noted_history.specs.Told.{IsTold}
+use Rattle.noted_history.specs.OfNotes.{HasNotes}
 use Rattle.verbs_model.specs.Tables.{state_of}
 use Rattle.world_core.specs.declared.outcome.Outcome.{Outcome}
 use Rattle.world_core.specs.Outcome.{IsOutcome}
@@ -23,7 +23,7 @@ history_of-requires c =
     record {
       told = (
         history s.lines s.programs h.trace,
-        subst (λ (turns : List Turn). IsTold (state_of c.self.inside.first) c.as_slice.result.now turns (history s.lines s.programs h.trace)) (sym c.as_slice-turns.ensures.value)
+        subst (λ (turns : List TurnRecord). HasNotes (state_of c.self.inside.first) c.as_slice.result.now turns (history s.lines s.programs h.trace)) (sym c.as_slice-turns.ensures.value)
             (told s v h consistent legal (state_of c.self.inside.first) c.as_slice.result.now c.self.invariant.first_is (c.as_slice.ensures.value ∙ c.self.invariant.programs_are)),
       );
     }
@@ -35,10 +35,10 @@ returns c =
     let h = c.self.invariant.holds in
     let consistent = c.copy_of_trace.ensures.consistent in
     let legal = history_is_legal s v h consistent c.woven.ensures c.ready.ensures c.self.invariant.scenario in
-    let told_here : IsTold (state_of c.self.inside.first) c.as_slice.result.now c.as_slice-turns.result.now (history s.lines s.programs h.trace) =
-    subst (λ (turns : List Turn). IsTold (state_of c.self.inside.first) c.as_slice.result.now turns (history s.lines s.programs h.trace)) (sym c.as_slice-turns.ensures.value)
+    let told_here : HasNotes (state_of c.self.inside.first) c.as_slice.result.now c.as_slice-turns.result.now (history s.lines s.programs h.trace) =
+    subst (λ (turns : List TurnRecord). HasNotes (state_of c.self.inside.first) c.as_slice.result.now turns (history s.lines s.programs h.trace)) (sym c.as_slice-turns.ensures.value)
     (told s v h consistent legal (state_of c.self.inside.first) c.as_slice.result.now c.self.invariant.first_is (c.as_slice.ensures.value ∙ c.self.invariant.programs_are)) in
     let o : Outcome = record { trace = c.in_ok-trace.trace; marks = c.in_ok-marks.marks; history = c.from_vec.result } in
     subst (λ (w : WorldView). IsOutcome w.parts w.turns o) c.self.view_is
-    (outcome_is s v h consistent legal o (run_is_bounded s v h consistent c.run_is_bounded.ensures c.ready.ensures c.self.invariant.scenario) c.in_ok-trace.ensures.trace (c.in_ok-marks.ensures ∙ ap (λ (turns : List Turn). marks_in turns) c.as_slice-turns.ensures.value)
+    (outcome_is s v h consistent legal o (run_is_bounded s v h consistent c.run_is_bounded.ensures c.ready.ensures c.self.invariant.scenario) c.in_ok-trace.ensures.trace (c.in_ok-marks.ensures ∙ ap (λ (turns : List TurnRecord). marks_in turns) c.as_slice-turns.ensures.value)
     (c.from_vec.ensures ∙ c.in_ok-history.ensures.told (history s.lines s.programs h.trace) told_here))

@@ -1,7 +1,7 @@
 -- The parts are the scenario's, and the run is at its beginning.
 use Rattle.std.proofs.Common.{◌∙◌, sym, ap, subst}
 use Rattle.scenario_text.specs.declared.scenario.ScenarioParts.{ScenarioParts}
-use Rattle.verbs_model.specs.Start.{start}
+use Rattle.verbs_rules.specs.Start.{start}
 use Rattle.verbs_model.specs.Tables.{state_of}
 use Rattle.world_core.specs.RunInside.{run_view}
 use Rattle.world_core.specs.WorldInside.{IsWorldOf}

@@ -1,7 +1,7 @@
 -- The run has what a turn asks, and holds after it.
 use Rattle.std.proofs.Common.{◌≡◌, ◌<◌, ◌≤◌, ◌∙◌, sym, ap, subst, arith, ℕ, List, [], ◌∷◌, ◌++◌, length, map}
 use Rattle.std.proofs.lemmas.List.{length-map}
-use Rattle.noted_history.specs.declared.log.Turn.{Turn}
+use Rattle.noted_history.specs.declared.log.TurnRecord.{TurnRecord}
 use Rattle.scenario_text.specs.Limits.{turn_count}
 use Rattle.world_core.specs.Holding.{actor_of}
 use Rattle.world_core.specs.RunInside.{run_view}

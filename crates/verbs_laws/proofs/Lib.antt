@@ -1,0 +1,15 @@
+pub mod Sameness
+pub mod Failing
+pub mod Facts
+pub mod Choices
+pub mod Climbing
+pub mod Counting
+pub mod Waiting
+pub mod Queued
+pub mod Owing
+pub mod Steady
+pub mod GoesPost
+pub mod GoesReceive
+pub mod GoesSettle
+pub mod GoesAdapter
+pub mod Families

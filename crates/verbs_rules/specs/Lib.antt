@@ -1,0 +1,12 @@
+pub mod Family
+pub mod State
+pub mod Same
+pub mod Rules
+pub mod Rows
+pub mod Step
+pub mod Legal
+pub mod Answered
+pub mod Proper
+pub mod Sane
+pub mod Start
+pub mod Running
