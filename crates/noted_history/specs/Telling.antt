@@ -12,7 +12,7 @@ use Rattle.noted_history.specs.declared.teller.Teller.{Teller}
 use Rattle.noted_history.specs.Behind.{IsBehind}
 use Rattle.noted_history.specs.OfNotes.{Noted, IsNoteOf}
 
--- how many calls of a thread are behind, and none of a thread that there is not
+-- how many calls of a thread are behind; 0 for a number that is no thread's
 abbrev pub behind_of : List Posting → ℕ → ℕ
 behind_of postings thread = (slice_index_or postings thread (record { behind = 0 })).behind
 

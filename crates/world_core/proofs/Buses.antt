@@ -16,4 +16,4 @@ pub with_one : (old new : Plain) (actor : ℕ) (e : BusEntry) → Appends (port_
 with_one old new actor e more =
     let told : record { start = new.start; trace = new.trace; base = 0 } ≡ record { start = old.start; trace = old.trace ++ e ∷ []; base = 0 } = cc more.told in
     let room : new.room ≡ old.room - 1 = cc more.room in
-    same_bus new (with_operation old actor e) more.actor (ap (λ (t : Told). t.start) told) (ap (λ (t : Told). t.trace) told) room
+    same_bus new (with_operation old actor e) more.actor (ap (λ (t : TraceView). t.start) told) (ap (λ (t : TraceView). t.trace) told) room
