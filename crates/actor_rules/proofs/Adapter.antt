@@ -1,6 +1,5 @@
 -- What ties the adapter to the abstract state.
-use Rattle.std.proofs.Common.{◌≡◌, ℕ, ◌<◌, true, List, [], ◌∷◌, IsTrue}
-use Rattle.verbs_types.specs.declared.completion.Queue.TheVariants.{Send}
+use Rattle.std.proofs.Common.{◌≡◌, ℕ, ◌<◌, true, [], ◌∷◌}
 use Rattle.verbs_types.specs.declared.declaration.Lines.{Lines}
 use Rattle.verbs_types.specs.declared.state.Act.TheVariants.{Complete}
 use Rattle.verbs_types.specs.declared.state.Unpolled.{Unpolled}
@@ -37,7 +36,3 @@ AdapterStandsAt d l v s Recording = Visits d v s.visit
 AdapterStandsAt d l v s Reading = Reads d v s
 AdapterStandsAt d l v s (Publishing cq c) = Owes d l v s cq c
 AdapterStandsAt d l v s Ending = v.owed ≡ []
-
-pub record AdapterStands (d : Lines) (l : Lists) (v : Verbs) (s : AdapterRule) : Type 0 where
-  pub taken : (qp : ℕ) → Lives d (Sends qp) → s.taken qp ≡ (v.queues (Send qp)).taken
-  pub work : AdapterStandsAt d l v s s.at_work

@@ -1,5 +1,5 @@
 -- What the words that the adapter reads and publishes are to the abstract state.
-use Rattle.std.proofs.Common.{◌≡◌, ℕ, zero, suc, [], ◌∷◌, subst, ◌+◌, ◌-◌, ◌%◌, ◌^◌, ◌<◌, ◌++◌, Bool, true, false, List, length, slice_get, unwrap_or, option_map, Option, Some, None, refl, sym, ◌∙◌, ap, arith, if◌then◌else◌}
+use Rattle.std.proofs.Common.{◌≡◌, ℕ, zero, suc, [], ◌∷◌, subst, ◌-◌, ◌%◌, ◌^◌, ◌<◌, ◌++◌, Bool, true, false, List, length, slice_get, unwrap_or, option_map, Option, Some, None, refl, sym, ◌∙◌, ap, arith, if◌then◌else◌}
 use Rattle.std.specs.List.{AllByRecursion}
 use Rattle.std.specs.Option.{option_map_or}
 use Rattle.std.proofs.lemmas.Bool.{false≢true}

@@ -1,5 +1,5 @@
 -- The adapter has read the last word of an entry, and takes the request.
-use Rattle.std.proofs.Common.{◌≡◌, ◌≢◌, ℕ, ◌+◌, ◌-◌, ◌<◌, inl, inr, Bool, true, false, if◌then◌else◌, List, [], ◌∷◌, length, slice_get, Some, refl, sym, ◌∙◌, ap, subst, arith, append-nil}
+use Rattle.std.proofs.Common.{◌≡◌, ℕ, ◌+◌, ◌-◌, ◌<◌, Bool, true, false, if◌then◌else◌, List, [], ◌∷◌, length, slice_get, Some, refl, sym, ◌∙◌, ap, subst, arith}
 use Rattle.std.proofs.lemmas.Option.{get_or_from_slice_get}
 use Rattle.bus_core.specs.declared.operation.BusEntry.{BusEntry}
 use Rattle.bus_core.specs.Trace.{Memory, after_entry}
@@ -22,7 +22,6 @@ use Rattle.verbs_rules.specs.Rows.{nop_completion}
 use Rattle.verbs_rules.specs.Same.{same_queue}
 use Rattle.verbs_rules.specs.State.{Verbs, WorkQueue}
 use Rattle.verbs_rules.specs.Step.{after}
-use Rattle.cq_pair.specs.Queue.{since}
 use Rattle.counted_ring.specs.declared.place.WqPlace.{WqPlace}
 use Rattle.counted_ring.specs.Device.{WqReader}
 use Rattle.counted_ring.specs.Place as requests_place
@@ -36,22 +35,21 @@ use Rattle.device_engine.specs.Entry.{nop_cqe, wants}
 use Rattle.device_engine.specs.Rows.{publish_or_next}
 use Rattle.device_engine.specs.State.{AdapterRule, Publishing, reader, send_cq, next_visit, working, with_reader, with_taken, put_number}
 use Rattle.actor_rules.specs.Actors.{Actors}
-use Rattle.actor_rules.specs.Owners.{poller_of}
+use Rattle.actor_rules.proofs.View.{view}
 use Rattle.verbs_rules.specs.Sane as sane
 use Rattle.actor_rules.proofs.Adapter.{Reads}
 use Rattle.actor_rules.proofs.AdapterEntries.{IsPosted, posted_at, wants_posted, sends_rts, nop_at}
-use Rattle.actor_rules.proofs.AdapterKeeps.{Bare, with_adapter, finish, to_next}
+use Rattle.actor_rules.proofs.AdapterKeeps.{with_adapter, finish, to_next}
 use Rattle.actor_rules.proofs.AdapterLooks.{OneQueue, reader_moves}
-use Rattle.actor_rules.proofs.AdapterQueues.{Takes, queue_takes, completions_gain}
-use Rattle.verbs_laws.proofs.Choices.{either}
+use Rattle.actor_rules.proofs.Kept.{completions_kept}
 use Rattle.actor_rules.proofs.Completions.{CompletionsStand, IsCompletion}
 use Rattle.verbs_laws.proofs.GoesAdapter.{owed_by, fetch_goes, is_fetched}
-use Rattle.actor_rules.proofs.Growing.{Grows, grows_same, grows_event}
-use Rattle.actor_rules.proofs.Holding.{Stands, IsMapped}
+use Rattle.actor_rules.proofs.Growing.{Grows, grows_refl, grows_event}
+use Rattle.actor_rules.proofs.Holding.{AsDeclared, Stands, Bare, IsMapped}
 use Rattle.actor_rules.proofs.Objects.{Lists, poll_side, poster_side, retirer_side}
-use Rattle.actor_rules.proofs.PerQueue.{either_queue, queue_here, queue_there}
-use Rattle.actor_rules.proofs.Queues.{QueueStands}
-use Rattle.actor_rules.proofs.Threading.{put_here, put_there}
+use Rattle.actor_rules.proofs.PerQueue.{queue_here, queue_there, queue_cases, queue_cases₂}
+use Rattle.actor_rules.proofs.Queues.{QueueLives, QueueIs, QueueIn, QueueStands}
+use Rattle.actor_rules.proofs.Threading.{put_here, number_by}
 use Rattle.verbs_rules.specs.Sane.{Bounds}
 
 module _ (d : Lines) (programs : List (List Call)) (total : Bounds) (map : IsMapped d) (m : Memory) (w : Actors) (v : Verbs) (dues : List (List Due)) (st : Stands d programs total m w v dues) where
@@ -76,7 +74,7 @@ module _ (d : Lines) (programs : List (List Call)) (total : Bounds) (map : IsMap
     lives = reads.visits.lives
 
     stands : QueueStands d programs w v q (Send qp)
-    stands = st.queues (Send qp) lives
+    stands = st.bare.state.queues (Send qp) lives
 
     found : slice_get q.requests u.taken ≡ Some may.request
     found = ap (slice_get q.requests) stands.taken ∙ may.found
@@ -91,16 +89,16 @@ module _ (d : Lines) (programs : List (List Call)) (total : Bounds) (map : IsMap
     more = omega (arith, stands.taken, may.rung, stands.rung)
 
     alive : v.pair_lives qp ≡ true
-    alive = st.declared.pair_lives qp ∙ lives
+    alive = st.bare.sound.declared.pair_lives qp ∙ lives
 
     sends : (v.pairs qp).state ≡ Rts
-    sends = ap (λ (p : QueuePair). p.state) (st.declared.pairs qp) ∙ sends_rts d qp reads.sends
+    sends = ap (λ (p : QueuePair). p.state) (st.bare.sound.declared.pairs qp) ∙ sends_rts d qp reads.sends
 
     pub goes : sane.Goes (length d.qps) total v 0 (Fetch (Send qp) number) dues
-    goes = fetch_goes (length d.qps) total v dues qp item st.sane alive sends reads.visits.idle posted.there more
+    goes = fetch_goes (length d.qps) total v dues qp item st.bare.sound.sane alive sends reads.visits.idle posted.there more
 
     nop : item.op ≡ Nop
-    nop = nop_at u.posted u.taken item (st.sane.queues qp).nops posted.there
+    nop = nop_at u.posted u.taken item (st.bare.sound.sane.queues qp).nops posted.there
 
     wanted : wants words ≡ item.wanted
     wanted = ap wants may.words_are ∙ wants_posted d qp u.posted u.taken may.request posted nop
@@ -113,7 +111,7 @@ module _ (d : Lines) (programs : List (List Call)) (total : Bounds) (map : IsMap
     lists = record { completions = st.lists.completions; queues = put same_queue st.lists.queues (Send qp) (after_event place q (Took words)) }
 
     is_now : after v (Fetch (Send qp) number) ≡ now (owed_by (v.pairs qp) qp number item)
-    is_now = is_fetched (length d.qps) total v dues qp item st.sane alive sends reads.visits.idle posted.there more
+    is_now = is_fetched (length d.qps) total v dues qp item st.bare.sound.sane alive sends reads.visits.idle posted.there more
 
     now_here : (acts : List Act) → (now acts).queues (Send qp) ≡ rows.take u number
     now_here acts = queue_here v.queues (Send qp) (rows.take u number)
@@ -121,70 +119,22 @@ module _ (d : Lines) (programs : List (List Call)) (total : Bounds) (map : IsMap
     lists_here : lists.queues (Send qp) ≡ after_event place q (Took words)
     lists_here = queue_here st.lists.queues (Send qp) (after_event place q (Took words))
 
-    takes_here : (acts : List Act) → Takes u ((now acts).queues (Send qp)) q (lists.queues (Send qp))
-    takes_here acts = record {
-      posted = ap (λ (x : WorkQueue). x.posted) (now_here acts);
-      room = ap (λ (x : WorkQueue). x.room) (now_here acts);
-      segments = ap (λ (x : WorkQueue). x.segments) (now_here acts);
-      retired = ap (λ (x : WorkQueue). x.retired) (now_here acts);
-      requests = ap (λ (x : counted.Queue). x.requests) lists_here;
-      rung = ap (λ (x : counted.Queue). x.rung) lists_here;
-      retired_words = ap (λ (x : counted.Queue). x.retired) lists_here;
-      taken = ap (λ (x : WorkQueue). x.taken) (now_here acts) ∙ ap (λ (k : ℕ). k + 1) stands.taken ∙ ap (λ (x : counted.Queue). x.taken) (sym lists_here);
-    }
-
-    takes_other : (acts : List Act) (queue : Queue) → queue ≢ Send qp → (v.queues queue).taken ≡ (st.lists.queues queue).taken → Takes (v.queues queue) ((now acts).queues queue) (st.lists.queues queue) (lists.queues queue)
-    takes_other acts queue differ taken =
-        let abstract = queue_there v.queues (Send qp) (rows.take u number) queue differ in
-        let words_are = queue_there st.lists.queues (Send qp) (after_event place q (Took words)) queue differ in record {
-          posted = ap (λ (x : WorkQueue). x.posted) abstract;
-          room = ap (λ (x : WorkQueue). x.room) abstract;
-          segments = ap (λ (x : WorkQueue). x.segments) abstract;
-          retired = ap (λ (x : WorkQueue). x.retired) abstract;
-          requests = ap (λ (x : counted.Queue). x.requests) words_are;
-          rung = ap (λ (x : counted.Queue). x.rung) words_are;
-          retired_words = ap (λ (x : counted.Queue). x.retired) words_are;
-          taken = ap (λ (x : WorkQueue). x.taken) abstract ∙ taken ∙ ap (λ (x : counted.Queue). x.taken) (sym words_are);
-        }
-
-    takes_now : (acts : List Act) (queue : Queue) → (v.queues queue).taken ≡ (st.lists.queues queue).taken → Takes (v.queues queue) ((now acts).queues queue) (st.lists.queues queue) (lists.queues queue)
-    takes_now acts queue taken = elim (either_queue queue (Send qp)) [
-      | inl same ↦ subst (λ (k : Queue). Takes (v.queues k) ((now acts).queues k) (st.lists.queues k) (lists.queues k)) (sym same) (takes_here acts)
-      | inr differ ↦ takes_other acts queue differ taken
-    ]
+    -- one more is taken, in words and in the state, and every other queue is as before
+    queues_now : (acts : List Act) (queue : Queue) → QueueLives d queue → QueueIn d (view programs w) (now acts) (lists.queues queue) queue
+    queues_now acts = queue_cases₂ (λ k x y. QueueLives d k → QueueIs d ((view programs w).written k) (w.posted k) x y k) v.queues st.lists.queues (Send qp) (rows.take u number) (after_event place q (Took words))
+        (λ alive_queue. record { posted = stands.posted; rung = stands.rung; taken = ap (λ (k : ℕ). k + 1) stands.taken; retired = stands.retired; room = stands.room; segments = stands.segments; told = stands.told })
+        (λ k differ alive_queue. st.bare.state.queues k alive_queue)
 
     grows_now : (i : ℕ) → Grows (st.lists.queues (Send i)) (lists.queues (Send i))
-    grows_now i = elim (either_queue (Send i) (Send qp)) [
-      | inl same ↦
-          let order = (st.objects (Sends qp) lives).shape.order in
-          let here : Grows q (lists.queues (Send qp)) = subst (λ (x : counted.Queue). Grows q x) (sym lists_here) (grows_event place q (Took words) (omega (arith, order.taken, order.rung))) in
-          subst (λ (k : Queue). Grows (st.lists.queues k) (lists.queues k)) (sym same) here
-      | inr differ ↦ grows_same (st.lists.queues (Send i)) (lists.queues (Send i)) (queue_there st.lists.queues (Send qp) (after_event place q (Took words)) (Send i) differ)
-    ]
+    grows_now i =
+        let order = (st.bare.objects (Sends qp) lives).shape.order in
+        queue_cases (λ k x. Grows (st.lists.queues k) x) st.lists.queues (Send qp) (after_event place q (Took words)) (grows_event place q (Took words) (omega (arith, order.taken, order.rung))) (λ k differ. grows_refl (st.lists.queues k)) (Send i)
 
     ends_now : (acts : List Act) (i : ℕ) → ((now acts).queues (Send i)).ends ≡ (v.queues (Send i)).ends
-    ends_now acts i = elim (either_queue (Send i) (Send qp)) [
-      | inl same ↦ subst (λ (k : Queue). ((now acts).queues k).ends ≡ (v.queues k).ends) (sym same) (ap (λ (x : WorkQueue). x.ends) (now_here acts))
-      | inr differ ↦ ap (λ (x : WorkQueue). x.ends) (queue_there v.queues (Send qp) (rows.take u number) (Send i) differ)
-    ]
+    ends_now acts i = queue_cases (λ k x. x.ends ≡ (v.queues k).ends) v.queues (Send qp) (rows.take u number) refl (λ k differ. refl) (Send i)
 
-    completions_now : (acts : List Act) (cq : ℕ) → Lives d (Completions cq) → CompletionsStand d lists (poll_side programs w cq) (w.threads (poller_of programs cq)).given (now acts) cq
-    completions_now acts cq alive_cq =
-        let h = st.completions cq alive_cq in
-        completions_gain d st.lists lists (poll_side programs w cq) (w.threads (poller_of programs cq)).given v (now acts) cq h (record {
-          more = [];
-          told = [];
-          fits = tt;
-          grows = grows_now;
-          ends = ends_now acts;
-          acked = refl;
-          size = refl;
-          produced_is = h.produced;
-          unpolled = sym (append-nil (v.completions cq).unpolled);
-          acked_words = refl;
-          runs = h.runs;
-          since_is = sym (append-nil (since (st.lists.completions cq) h.from));
-        })
+    completions_now : (acts : List Act) (cq : ℕ) → Lives d (Completions cq) → CompletionsStand d lists (poll_side programs w cq) ((view programs w).given cq) (now acts) cq
+    completions_now acts cq alive = completions_kept d st.lists lists grows_now (poll_side programs w cq) ((view programs w).given cq) v (now acts) cq refl refl (λ i live home. ends_now acts i) (st.bare.state.completions cq alive)
 
     module _ (e : BusEntry) (r : WqReader) (inside : requests_place.touches place e.addr ≡ true)
         (tied : requests.Tied place (after_entry m e) (poster_side programs w (Send qp)) (retirer_side d programs w qp) r (after_event place q (Took words))) where
@@ -192,14 +142,10 @@ module _ (d : Lines) (programs : List (List Call)) (total : Bounds) (map : IsMap
       rule = with_taken (with_reader r w.adapter)
 
       taken_now : (acts : List Act) (n : ℕ) → Lives d (Sends n) → rule.taken n ≡ ((now acts).queues (Send n)).taken
-      taken_now acts n alive_n = elim (either n qp) [
-        | inl same ↦
-            let here : rule.taken qp ≡ ((now acts).queues (Send qp)).taken = put_here w.adapter.taken qp (w.adapter.taken qp + 1) ∙ ap (λ (k : ℕ). k + 1) (st.adapter.taken qp lives) ∙ ap (λ (x : WorkQueue). x.taken) (sym (now_here acts)) in
-            subst (λ (k : ℕ). rule.taken k ≡ ((now acts).queues (Send k)).taken) (sym same) here
-        | inr differ ↦
-            put_there w.adapter.taken qp (w.adapter.taken qp + 1) n differ ∙ st.adapter.taken n alive_n
-            ∙ ap (λ (x : WorkQueue). x.taken) (sym (queue_there v.queues (Send qp) (rows.take u number) (Send n) (λ same. differ (cc same))))
-      ]
+      taken_now acts = number_by (λ n b. Lives d (Sends n) → (if b then w.adapter.taken qp + 1 else w.adapter.taken n) ≡ (if b then rows.take u number else v.queues (Send n)).taken) qp (λ alive. ap (λ (k : ℕ). k + 1) (st.bare.state.taken qp alive)) (λ n differ alive. st.bare.state.taken n alive)
+
+      abbrev was : AsDeclared d v
+      was = st.bare.sound.declared
 
       one : OneQueue d programs total map m w v dues st lists
       one = record { queues = λ queue differ. queue_there st.lists.queues (Send qp) (after_event place q (Took words)) queue differ; completions = λ cq. refl }
@@ -208,13 +154,9 @@ module _ (d : Lines) (programs : List (List Call)) (total : Bounds) (map : IsMap
       bare acts sane_now = record {
         objects = reader_moves d programs total map m w v dues st e lists (put_number w.adapter.taken qp (w.adapter.taken qp + 1)) r lives inside one
             (subst (λ (x : counted.Queue). requests.Tied place (after_entry m e) (poster_side programs w (Send qp)) (retirer_side d programs w qp) r x) (sym lists_here) tied);
-        queues = λ queue alive_queue. queue_takes d programs w rule v (now acts) (st.lists.queues queue) (lists.queues queue) queue (takes_now acts queue (st.queues queue alive_queue).taken) (st.queues queue alive_queue);
-        completions = completions_now acts;
-        taken = taken_now acts;
-        threads = st.threads;
-        declared = record { pairs = st.declared.pairs; pair_lives = st.declared.pair_lives; completions_live = st.declared.completions_live };
-        long = st.long;
-        sane = sane_now;
+        state = record { queues = queues_now acts; completions = completions_now acts; taken = taken_now acts };
+        threads = st.bare.threads;
+        sound = record { declared = record { pairs = was.pairs; pair_lives = was.pair_lives; completions_live = was.completions_live }; long = st.bare.sound.long; sane = sane_now };
       }
 
       -- what is owed is the completion of the words
@@ -230,7 +172,7 @@ module _ (d : Lines) (programs : List (List Call)) (total : Bounds) (map : IsMap
           let taken : (lists.queues (Send qp)).taken ≡ q.taken + 1 = ap (λ (x : counted.Queue). x.taken) lists_here in record {
             some = omega arith;
             taken = omega (arith, taken, stands.taken);
-            words = ap (nop_cqe qp) ((st.objects (Sends qp) lives).device.next_is ∙ sym index);
+            words = ap (nop_cqe qp) ((st.bare.objects (Sends qp) lives).device.next_is ∙ sym index);
             told = ap (λ (i : ℕ). nop_completion qp i 0) (sym posted.spells.id_is ∙ ap (λ (x : counted.Request). x.id) (sym request));
           }
 
@@ -241,10 +183,10 @@ module _ (d : Lines) (programs : List (List Call)) (total : Bounds) (map : IsMap
             lives = lives;
             queue = refl;
             unpolled = owed_now;
-            owed = ap (λ (p : QueuePair). Complete p.send_cq owed_now ∷ []) (st.declared.pairs qp);
+            owed = ap (λ (p : QueuePair). Complete p.send_cq owed_now ∷ []) (st.bare.sound.declared.pairs qp);
             spells = spells_now;
             pair = refl;
-            number = ap (λ (k : ℕ). k + 1) (sym (st.adapter.taken qp lives)) ∙ sym (put_here w.adapter.taken qp (w.adapter.taken qp + 1));
+            number = ap (λ (k : ℕ). k + 1) (sym (st.bare.state.taken qp lives)) ∙ sym (put_here w.adapter.taken qp (w.adapter.taken qp + 1));
           })
       by_wish false sane_now = to_next d programs total (after_entry m e) w lists (now []) dues rule (bare [] sane_now) refl
 

@@ -102,7 +102,7 @@ module _ (d : Lines) (programs : List (List Call)) (total : Bounds) (map : IsMap
     read_goes false t = quiet (with_reader (read_to false) a) (reads_on d programs total map m w r.verbs h.dues st e tells lives (read_to false) work reads inside refl t)
     read_goes true t =
         let rule : AdapterRule = fetched d (reader a).next (took true) (with_reader (read_to true) a) in
-        subst (λ (n : ℕ). Goes d programs total m' (with_adapter w rule) r (Some (by 0 (Fetch (Send a.visit) (n + 1))))) (sym (st.adapter.taken a.visit lives))
+        subst (λ (n : ℕ). Goes d programs total m' (with_adapter w rule) r (Some (by 0 (Fetch (Send a.visit) (n + 1))))) (sym (st.bare.state.taken a.visit lives))
         (turns rule (Fetch (Send a.visit) (fetches.number d programs total map m w r.verbs h.dues st)) (fetches.goes d programs total map m w r.verbs h.dues st reads words t.0).legal
         (fetches.takes d programs total map m w r.verbs h.dues st reads words t.0 e (read_to true) inside t.1))
 
@@ -110,7 +110,7 @@ module _ (d : Lines) (programs : List (List Call)) (total : Bounds) (map : IsMap
     reading_goes =
         read_goes (is_whole place (reader a).ready words)
         (request_step.device_step place m (poster_side programs w (Send a.visit)) (retirer_side d programs w a.visit) (reader a) (st.lists.queues (Send a.visit)) request_marks.Read e
-        (fine d programs total map m w r.verbs h.dues st e tells lives) (st.objects (Sends a.visit) lives) tells may)
+        (fine d programs total map m w r.verbs h.dues st e tells lives) (st.bare.objects (Sends a.visit) lives) tells may)
 
   module _ (cq : ℕ) (c : Cqe) (work : a.at_work ≡ Publishing cq c) (o : Owes d st.lists r.verbs a cq c) where
     abbrev cq_place : CqPlace
@@ -137,7 +137,7 @@ module _ (d : Lines) (programs : List (List Call)) (total : Bounds) (map : IsMap
 
     -- the queue has not overrun
     runs : side.overrun ≡ false
-    runs = sym (publishes.tied d programs total map m w r.verbs h.dues st cq c o).fits.overrun ∙ (st.completions cq (publishes.lives d programs total map m w r.verbs h.dues st cq c o)).runs
+    runs = sym (publishes.tied d programs total map m w r.verbs h.dues st cq c o).fits.overrun ∙ (st.bare.state.completions cq (publishes.lives d programs total map m w r.verbs h.dues st cq c o)).counts.runs
 
     mark_goes : (overrun : Bool) → overrun ≡ false → MayDeliver cq_place side (mark_of (Some c) overrun) e
         → GoesTo (published d (delivered cq_place side (mark_of (Some c) overrun) e) (with_queue cq (after_deliver cq_place side (mark_of (Some c) overrun) e) a)) (publish_said cq (a.taken a.visit) (delivered cq_place side (mark_of (Some c) overrun) e))
@@ -162,4 +162,4 @@ module _ (d : Lines) (programs : List (List Call)) (total : Bounds) (map : IsMap
 -- an operation of the adapter that keeps its rule
 pub adapter_goes : (d : Lines) (programs : List (List Call)) (total : Bounds) → IsMapped d → (m : Memory) (w : Actors) (r : Running) (x : Marked Mark) → Holds d programs total m w r → x.entry.actor ≡ 0 → Tells m x.entry → MayAdapter d w.adapter x
     → Goes d programs total (after_entry m x.entry) (after_by d w 0 x) r (option_map (by 0) (what_of d w 0 x))
-adapter_goes d programs total map m w r x h is tells may = by_work d programs total map m w r h x.entry tells w.adapter.at_work refl h.stands.adapter.work may.goes_on
+adapter_goes d programs total map m w r x h is tells may = by_work d programs total map m w r h x.entry tells w.adapter.at_work refl h.stands.work may.goes_on

@@ -23,10 +23,12 @@ use Rattle.device_engine.specs.State.{AdapterRule, AdapterAt, Recording, Reading
 use Rattle.device_engine.specs.Rows.{read_or_next, recorded, after_looking, after_recording}
 use Rattle.actor_rules.specs.Actors.{Actors}
 use Rattle.actor_rules.proofs.Adapter.{AdapterStandsAt, Reads}
-use Rattle.actor_rules.proofs.AdapterKeeps.{Bare, with_adapter, at_visit, queue_other, finish, to_first, to_read_or_next}
-use Rattle.actor_rules.proofs.Frame.{AllTied, SameAt, frame, frame_load}
-use Rattle.actor_rules.proofs.Holding.{Stands, IsMapped}
-use Rattle.actor_rules.proofs.Objects.{Lists, poster_side, retirer_side}
+use Rattle.actor_rules.proofs.AdapterKeeps.{with_adapter, at_visit, finish, to_first, to_read_or_next}
+use Rattle.bus_core.proofs.Words.{load_keeps}
+use Rattle.actor_rules.proofs.View.{view}
+use Rattle.actor_rules.proofs.Frame.{frame_in, frame_elsewhere}
+use Rattle.actor_rules.proofs.Holding.{Stands, Bare, IsMapped}
+use Rattle.actor_rules.proofs.Objects.{AllTied, sides, Lists, poster_side, retirer_side}
 use Rattle.actor_rules.proofs.Threading.{put_here, put_there}
 use Rattle.verbs_rules.specs.Sane.{Bounds}
 
@@ -45,13 +47,9 @@ module _ (d : Lines) (programs : List (List Call)) (total : Bounds) (map : IsMap
   pub bare_quiet : (m' : Memory) (s : AdapterRule) → ((n : ℕ) → s.taken n ≡ w.adapter.taken n) → AllTied d programs m' (with_adapter w s) st.lists → Bare d programs total m' (with_adapter w s) st.lists v dues
   bare_quiet m' s taken tied = record {
     objects = tied;
-    queues = λ queue lives. queue_other d programs total m w w.adapter s v (st.lists.queues queue) queue (st.queues queue lives);
-    completions = st.completions;
-    taken = λ n lives. taken n ∙ st.adapter.taken n lives;
-    threads = st.threads;
-    declared = st.declared;
-    long = st.long;
-    sane = st.sane;
+    state = record { queues = st.bare.state.queues; completions = st.bare.state.completions; taken = λ n lives. taken n ∙ st.bare.state.taken n lives };
+    threads = st.bare.threads;
+    sound = st.bare.sound;
   }
 
   -- the visited pair's send queue is all that may change of the queues of words
@@ -59,17 +57,19 @@ module _ (d : Lines) (programs : List (List Call)) (total : Bounds) (map : IsMap
     pub queues : (queue : Queue) → queue ≢ Send qp → now.queues queue ≡ st.lists.queues queue
     pub completions : (cq : ℕ) → now.completions cq ≡ st.lists.completions cq
 
-  reader_apart : (now : Lists) (taken : ℕ → ℕ) (r : WqReader) → OneQueue now → (p : Object) → p ≢ Sends qp → SameAt d programs w (with_adapter w (read_as taken r)) st.lists now p
-  reader_apart now taken r one (Completions cq) differ = (refl, refl, one.completions cq)
-  reader_apart now taken r one (Sends n) differ = (refl, refl, put_there w.adapter.readers qp r n (λ same. differ (ap (λ (k : ℕ). Sends k) same)), one.queues (Send n) (λ same. differ (ap (λ (k : ℕ). Sends k) (cc same))))
-  reader_apart now taken r one (Receives n) differ = (refl, one.queues (Recv n) (λ same. absurd (cc same)))
+  reader_apart : (now : Lists) (taken : ℕ → ℕ) (r : WqReader) → OneQueue now → (p : Object) → Lives d p → p ≢ Sends qp → sides d (view programs (with_adapter w (read_as taken r))) now p ≡ sides d (view programs w) st.lists p
+  reader_apart now taken r one (Completions cq) alive differ = λ i. record (sides d (view programs w) st.lists (Completions cq)) { words = one.completions cq i }
+  reader_apart now taken r one (Sends n) alive differ =
+      let apart : n ≢ qp = λ same. differ (ap (λ (k : ℕ). Sends k) same) in
+      λ i. record (sides d (view programs w) st.lists (Sends n)) { reader = put_there w.adapter.readers qp r n apart i; words = one.queues (Send n) (λ same. apart cc) i }
+  reader_apart now taken r one (Receives n) alive differ = λ i. record (sides d (view programs w) st.lists (Receives n)) { words = one.queues (Recv n) (λ same. absurd (cc same)) i }
 
   pub reader_moves : (e : BusEntry) (now : Lists) (taken : ℕ → ℕ) (r : WqReader) → Lives d (Sends qp) → requests_place.touches place e.addr ≡ true → OneQueue now
       → requests.Tied place (after_entry m e) (poster_side programs w (Send qp)) (retirer_side d programs w qp) r (now.queues (Send qp))
       → AllTied d programs (after_entry m e) (with_adapter w (read_as taken r)) now
   reader_moves e now taken r lives inside one tied =
-      frame d programs map m e w (with_adapter w (read_as taken r)) st.lists now (Sends qp) lives inside (reader_apart now taken r one) st.objects
-      (subst (λ (x : WqReader). requests.Tied place (after_entry m e) (poster_side programs w (Send qp)) (retirer_side d programs w qp) x (now.queues (Send qp))) (sym (put_here w.adapter.readers qp r)) tied)
+      frame_in d map m e (view programs w) (view programs (with_adapter w (read_as taken r))) st.lists now st.bare.objects (Sends qp) lives inside (reader_apart now taken r one)
+      (coe 1 0 (i. requests.Tied place (after_entry m e) (poster_side programs w (Send qp)) (retirer_side d programs w qp) (put_here w.adapter.readers qp r i) (now.queues (Send qp))) tied)
 
   pub same_queues : OneQueue st.lists
   same_queues = record { queues = λ queue differ. refl; completions = λ cq. refl }
@@ -95,7 +95,7 @@ module _ (d : Lines) (programs : List (List Call)) (total : Bounds) (map : IsMap
 
           bare : Bare d programs total (after_entry m e) (with_adapter w (with_reader r w.adapter)) st.lists v dues
           bare = reader_bare r (deliver_inside place fine e (reader w.adapter) requests_marks.Look may)
-              (device_step place m (poster_side programs w (Send qp)) (retirer_side d programs w qp) (reader w.adapter) (st.lists.queues (Send qp)) requests_marks.Look e fine (st.objects (Sends qp) lives) tells may)
+              (device_step place m (poster_side programs w (Send qp)) (retirer_side d programs w qp) (reader w.adapter) (st.lists.queues (Send qp)) requests_marks.Look e fine (st.bare.objects (Sends qp) lives) tells may)
 
           by : (same : Bool) → Stands d programs total (after_entry m e) (with_adapter w (if same then read_or_next d (reader w.adapter) (with_reader r w.adapter) else working Recording (with_reader r w.adapter))) v dues
           by true = to_read_or_next d programs total (after_entry m e) w st.lists v dues (with_reader r w.adapter) bare (reader w.adapter) lives idle (ready_here r)
@@ -104,7 +104,7 @@ module _ (d : Lines) (programs : List (List Call)) (total : Bounds) (map : IsMap
       pub records : MayRecord place (reader w.adapter) false e → Stands d programs total (after_entry m e) (with_adapter w (after_recording d w.adapter e)) v dues
       records may =
           let r : WqReader = recorded w.adapter e in
-          let step = device_step place m (poster_side programs w (Send qp)) (retirer_side d programs w qp) (reader w.adapter) (st.lists.queues (Send qp)) (requests_marks.Record false) e fine (st.objects (Sends qp) lives) tells may in
+          let step = device_step place m (poster_side programs w (Send qp)) (retirer_side d programs w qp) (reader w.adapter) (st.lists.queues (Send qp)) (requests_marks.Record false) e fine (st.bare.objects (Sends qp) lives) tells may in
           let bare = reader_bare r (deliver_inside place fine e (reader w.adapter) (requests_marks.Record false) may) step.1 in
           to_read_or_next d programs total (after_entry m e) w st.lists v dues (with_reader r w.adapter) bare r lives idle (ready_here r)
 
@@ -118,12 +118,7 @@ module _ (d : Lines) (programs : List (List Call)) (total : Bounds) (map : IsMap
         (subst (λ (a : AdapterAt). AdapterStandsAt d st.lists v (at_visit qp w.adapter.at_work (with_reader r w.adapter)) a) (sym work)
         (record { visits = reads.visits; sends = reads.sends; ready = subst (λ (n : ℕ). 0 < n) (sym ready ∙ ready_here r) reads.ready }))
 
-  same_sides : (p : Object) → SameAt d programs w (with_adapter w w.adapter) st.lists st.lists p
-  same_sides (Completions cq) = (refl, refl, refl)
-  same_sides (Sends n) = (refl, refl, refl, refl)
-  same_sides (Receives n) = (refl, refl)
-
   pub ends : (e : BusEntry) → IsLoad ENDED_WORD e → v.owed ≡ [] → Stands d programs total (after_entry m e) (with_adapter w (first_visit d w.adapter)) v dues
   ends e load idle =
-      let tied = frame_load d programs map m e w (with_adapter w w.adapter) st.lists st.lists load.op same_sides st.objects in
+      let tied = frame_elsewhere d map m (after_entry m e) (view programs w) st.lists (λ p lives a inside. load_keeps m e a load.op) st.bare.objects in
       to_first d programs total (after_entry m e) w st.lists v dues w.adapter (bare_quiet (after_entry m e) w.adapter (λ n. refl) tied) idle

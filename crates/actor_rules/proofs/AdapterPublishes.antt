@@ -1,5 +1,5 @@
 -- The adapter publishes the completion that it owes.
-use Rattle.std.proofs.Common.{◌≡◌, ◌≢◌, ℕ, ◌+◌, ◌-◌, ◌<◌, ◌≤◌, inl, inr, true, false, List, [], ◌∷◌, ◌++◌, length, refl, sym, ◌∙◌, ap, subst, arith, append-nil, length-append}
+use Rattle.std.proofs.Common.{◌≡◌, ◌≢◌, ℕ, ◌+◌, ◌-◌, ◌<◌, ◌≤◌, true, if◌then◌else◌, List, [], ◌∷◌, ◌++◌, length, refl, sym, ◌∙◌, ap, subst, arith, length-append}
 use Rattle.std.proofs.lemmas.Option.{slice_get-get_or}
 use Rattle.bus_core.specs.declared.operation.BusEntry.{BusEntry}
 use Rattle.bus_core.specs.Trace.{Memory, after_entry}
@@ -37,22 +37,21 @@ use Rattle.object_places.specs.Places.{completions_of}
 use Rattle.provider_poll.specs.Completion.{completion_of}
 use Rattle.device_engine.specs.State.{AdapterAt, AdapterRule, Publishing, next_visit, with_queue, put_number}
 use Rattle.actor_rules.specs.Actors.{Actors, id_in}
-use Rattle.actor_rules.specs.Owners.{poller_of}
+use Rattle.actor_rules.proofs.View.{view}
 use Rattle.verbs_rules.specs.Sane as sane
 use Rattle.actor_rules.proofs.Adapter.{AdapterStandsAt, Owes}
 use Rattle.actor_rules.proofs.AdapterEntries.{IsPosted, completion_is, posted_at, id_posted}
-use Rattle.actor_rules.proofs.AdapterKeeps.{Bare, with_adapter, at_visit, finish, to_next}
+use Rattle.actor_rules.proofs.AdapterKeeps.{with_adapter, at_visit, finish, to_next}
 use Rattle.actor_rules.proofs.AdapterLooks.{bare_quiet}
-use Rattle.actor_rules.proofs.AdapterQueues.{Gains, completions_gain}
-use Rattle.verbs_laws.proofs.Choices.{either}
-use Rattle.actor_rules.proofs.Completions.{CompletionsStand}
-use Rattle.actor_rules.proofs.Frame.{AllTied, SameAt, frame}
+use Rattle.actor_rules.proofs.AdapterQueues.{poll_front}
+use Rattle.actor_rules.proofs.Completions.{CompletionsIn, IsCompletion, ends_in, CompletionsStand}
+use Rattle.actor_rules.proofs.Frame.{frame_in}
 use Rattle.verbs_laws.proofs.GoesAdapter.{publish_goes, publish_room}
-use Rattle.actor_rules.proofs.Growing.{completion_kept, grows_same}
-use Rattle.actor_rules.proofs.Holding.{Stands, IsMapped}
-use Rattle.actor_rules.proofs.Objects.{Lists, poll_side}
+use Rattle.actor_rules.proofs.Holding.{Stands, Bare, IsMapped}
+use Rattle.actor_rules.proofs.Objects.{AllTied, sides, Lists, poll_side}
 use Rattle.actor_rules.proofs.Queues.{QueueStands}
-use Rattle.actor_rules.proofs.Threading.{put_here, put_there}
+use Rattle.actor_rules.proofs.Threading.{put_here, put_there, number_by}
+use Rattle.actor_rules.proofs.Matching.{Match, match_push}
 use Rattle.verbs_rules.specs.Sane.{Bounds}
 
 module _ (d : Lines) (programs : List (List Call)) (total : Bounds) (map : IsMapped d) (m : Memory) (w : Actors) (v : Verbs) (dues : List (List Due)) (st : Stands d programs total m w v dues) (cq : ℕ) (c : Cqe) (o : Owes d st.lists v w.adapter cq c) where
@@ -74,19 +73,19 @@ module _ (d : Lines) (programs : List (List Call)) (total : Bounds) (map : IsMap
   -- the queue is one that lives
   pub lives : Lives d (Completions cq)
   lives =
-      let home : v.completions_live (v.pairs qp).send_cq ≡ true = (st.sane.lives qp (st.declared.pair_lives qp ∙ o.lives)).home in
-      let same : (v.pairs qp).send_cq ≡ cq = ap (λ (p : QueuePair). p.send_cq) (st.declared.pairs qp) ∙ sym o.queue in
-      sym (st.declared.completions_live cq) ∙ ap v.completions_live (sym same) ∙ home
+      let home : v.completions_live (v.pairs qp).send_cq ≡ true = (st.bare.sound.sane.lives qp (st.bare.sound.declared.pair_lives qp ∙ o.lives)).home in
+      let same : (v.pairs qp).send_cq ≡ cq = ap (λ (p : QueuePair). p.send_cq) (st.bare.sound.declared.pairs qp) ∙ sym o.queue in
+      sym (st.bare.sound.declared.completions_live cq) ∙ ap v.completions_live (sym same) ∙ home
 
-  stands : CompletionsStand d st.lists (poll_side programs w cq) (w.threads (poller_of programs cq)).given v cq
-  stands = st.completions cq lives
+  stands : CompletionsStand d st.lists (poll_side programs w cq) ((view programs w).given cq) v cq
+  stands = st.bare.state.completions cq lives
 
   pub tied : completions.Tied place m (w.adapter.queues cq) host q
-  tied = st.objects (Completions cq) lives
+  tied = st.bare.objects (Completions cq) lives
 
   -- there is room for it
   pub never_full : (index ci : ℕ) → MayOverrun (size (ring_of place)) q index ci → ⊥
-  never_full index ci may = omega (arith, may.full, publish_room (length d.qps) total v dues cq u [] st.sane o.owed, stands.produced, stands.acked, stands.size, (st.sane.completions cq).begun, (st.sane.completions cq).acked)
+  never_full index ci may = omega (arith, may.full, publish_room (length d.qps) total v dues cq u [] st.bare.sound.sane o.owed, stands.counts.produced, stands.counts.acked, stands.counts.size, (st.bare.sound.sane.completions cq).begun, (st.bare.sound.sane.completions cq).acked)
 
   -- The completion of the words, with the id that was stored, is the one that is owed.
 
@@ -100,11 +99,11 @@ module _ (d : Lines) (programs : List (List Call)) (total : Bounds) (map : IsMap
   pair_lives = subst (λ (k : ℕ). Lives d (Sends k)) (sym o.pair) o.lives
 
   pair_stands : QueueStands d programs w v requests_of (Send pair)
-  pair_stands = st.queues (Send pair) pair_lives
+  pair_stands = st.bare.state.queues (Send pair) pair_lives
 
   posted : IsPosted d pair (v.queues (Send pair)).posted (u.number - 1) (request_of requests_of (u.number - 1))
   posted =
-      let order = (st.objects (Sends pair) pair_lives).shape.order in
+      let order = (st.bare.objects (Sends pair) pair_lives).shape.order in
       let low : u.number - 1 < requests_of.rung = omega (arith, o.spells.some, o.spells.taken, order.taken) in
       posted_at d programs w v requests_of pair (u.number - 1) (request_of requests_of (u.number - 1)) pair_stands low
       (slice_get-get_or requests_of.requests (u.number - 1) (record { index = 0; words = []; id = 0 }) (omega (arith, low, order.rung)))
@@ -120,7 +119,7 @@ module _ (d : Lines) (programs : List (List Call)) (total : Bounds) (map : IsMap
       ∙ sym o.spells.told
 
   pub goes : (x : Completion) → x ≡ u.completion → sane.Goes (length d.qps) total v 0 (Publish cq x) dues
-  goes x is = publish_goes (length d.qps) total v dues cq u [] st.sane o.owed x is
+  goes x is = publish_goes (length d.qps) total v dues cq u [] st.bare.sound.sane o.owed x is
 
   module _ (e : BusEntry) (device : QueueDevice) (inside : ring_place.touches (ring_of place) e.addr ≡ true) where
     abbrev rule : AdapterRule
@@ -131,17 +130,17 @@ module _ (d : Lines) (programs : List (List Call)) (total : Bounds) (map : IsMap
       queues : (queue : Queue) → now.queues queue ≡ st.lists.queues queue
       completions : (k : ℕ) → k ≢ cq → now.completions k ≡ st.lists.completions k
 
-    device_apart : (now : Lists) → OneCompletions now → (p : Object) → p ≢ Completions cq → SameAt d programs w (with_adapter w rule) st.lists now p
-    device_apart now only (Completions k) differ =
+    device_apart : (now : Lists) → OneCompletions now → (p : Object) → Lives d p → p ≢ Completions cq → sides d (view programs (with_adapter w rule)) now p ≡ sides d (view programs w) st.lists p
+    device_apart now only (Completions k) alive differ =
         let apart : k ≢ cq = λ same. differ (ap (λ (n : ℕ). Completions n) same) in
-        (put_there w.adapter.queues cq device k apart, refl, only.completions k apart)
-    device_apart now only (Sends n) differ = (refl, refl, refl, only.queues (Send n))
-    device_apart now only (Receives n) differ = (refl, only.queues (Recv n))
+        λ i. record { device = put_there w.adapter.queues cq device k apart i; host = (poll_side programs w k).host; words = only.completions k apart i }
+    device_apart now only (Sends n) alive differ = λ i. record (sides d (view programs w) st.lists (Sends n)) { words = only.queues (Send n) i }
+    device_apart now only (Receives n) alive differ = λ i. record (sides d (view programs w) st.lists (Receives n)) { words = only.queues (Recv n) i }
 
     device_moves : (now : Lists) → OneCompletions now → completions.Tied place (after_entry m e) device host (now.completions cq) → AllTied d programs (after_entry m e) (with_adapter w rule) now
     device_moves now only t =
-        frame d programs map m e w (with_adapter w rule) st.lists now (Completions cq) lives inside (device_apart now only) st.objects
-        (subst (λ (x : QueueDevice). completions.Tied place (after_entry m e) x host (now.completions cq)) (sym (put_here w.adapter.queues cq device)) t)
+        frame_in d map m e (view programs w) (view programs (with_adapter w rule)) st.lists now st.bare.objects (Completions cq) lives inside (device_apart now only)
+        (coe 1 0 (i. completions.Tied place (after_entry m e) (put_here w.adapter.queues cq device i) host (now.completions cq)) t)
 
     -- one more word of it is stored
     pub publishes_on : w.adapter.at_work ≡ Publishing cq c → completions.Tied place (after_entry m e) device host q → Stands d programs total (after_entry m e) (with_adapter w rule) v dues
@@ -168,76 +167,47 @@ module _ (d : Lines) (programs : List (List Call)) (total : Bounds) (map : IsMap
       lists_here : lists.completions cq ≡ longer
       lists_here = put_here st.lists.completions cq longer
 
-      now_here : now.completions cq ≡ told
-      now_here = put_here v.completions cq told
-
       -- what no poll's entry tells of is among what was published
       from_low : stands.from ≤ produced q
       from_low =
           let count : produced q ≡ _ = same_produced tied.entries (w.adapter.queues cq) host q tied.fits in
           omega (arith, stands.from_is, count, (known tied.entries host tied.ring.consumer).next_in)
 
-      gains_here : Gains st.lists lists v now cq stands.from
-      gains_here =
-          let long : length (q.completions ++ c ∷ []) ≡ length q.completions + 1 = length-append q.completions (c ∷ []) in record {
-            more = c ∷ [];
-            told = u ∷ [];
-            fits = (completion_kept st.lists lists c u (grows_same _ _ refl) o.spells, tt);
-            grows = λ i. grows_same _ _ refl;
-            ends = λ i. refl;
-            acked = ap (λ (x : CompletionQueue). x.acked) now_here;
-            size = ap (λ (x : CompletionQueue). x.size) now_here;
-            produced_is = ap (λ (x : CompletionQueue). x.produced) now_here ∙ omega (arith, stands.produced, long) ∙ ap produced (sym lists_here);
-            unpolled = ap (λ (x : CompletionQueue). x.unpolled) now_here;
-            acked_words = ap (λ (x : PlainQueue). x.acked) lists_here;
-            runs = ap (λ (x : PlainQueue). x.overrun) lists_here ∙ stands.runs;
-            since_is = ap (λ (x : PlainQueue). since x stands.from) lists_here ∙ (reads_as_history (size (ring_of place)) q).published index stands.from c may from_low;
+      gains_now : CompletionsIn d cq st.lists.queues longer (poll_side programs w cq) ((view programs w).given cq) told (ends_in v)
+      gains_now =
+          let long : length (q.completions ++ c ∷ []) ≡ length q.completions + 1 = length-append q.completions (c ∷ []) in
+          let us : List Unpolled = (v.completions cq).unpolled in record {
+            counts = record { acked = stands.counts.acked; produced = omega (arith, stands.counts.produced, long); size = stands.counts.size; runs = stands.counts.runs };
+            from = stands.from;
+            from_is = stands.from_is;
+            low = stands.low;
+            unpolled = subst (λ (cs : List Cqe). Match (IsCompletion st.lists) cs (us ++ u ∷ [])) (sym ((reads_as_history (size (ring_of place)) q).published index stands.from c may from_low))
+                (match_push (IsCompletion st.lists) (since q stands.from) us c u stands.unpolled o.spells);
+            reads = stands.reads;
+            poll = poll_front d cq (poll_side programs w cq).retirers st.lists.queues ((view programs w).given cq) us (u ∷ []) (poll_side programs w cq).state stands.poll;
+            retirers = stands.retirers;
+            asked = stands.asked;
+            ends = stands.ends;
           }
 
-      gains_other : (k from : ℕ) → k ≢ cq → (v.completions k).produced ≡ produced (st.lists.completions k) → (st.lists.completions k).overrun ≡ false → Gains st.lists lists v now k from
-      gains_other k from differ count runs =
-          let words_are = put_there st.lists.completions cq longer k differ in
-          let abstract = put_there v.completions cq told k differ in record {
-            more = [];
-            told = [];
-            fits = tt;
-            grows = λ i. grows_same _ _ refl;
-            ends = λ i. refl;
-            acked = ap (λ (x : CompletionQueue). x.acked) abstract;
-            size = ap (λ (x : CompletionQueue). x.size) abstract;
-            produced_is = ap (λ (x : CompletionQueue). x.produced) abstract ∙ count ∙ ap produced (sym words_are);
-            unpolled = ap (λ (x : CompletionQueue). x.unpolled) abstract ∙ sym (append-nil (v.completions k).unpolled);
-            acked_words = ap (λ (x : PlainQueue). x.acked) words_are;
-            runs = ap (λ (x : PlainQueue). x.overrun) words_are ∙ runs;
-            since_is = ap (λ (x : PlainQueue). since x from) words_are ∙ sym (append-nil (since (st.lists.completions k) from));
-          }
-
-      completions_now : (k : ℕ) → Lives d (Completions k) → CompletionsStand d lists (poll_side programs w k) (w.threads (poller_of programs k)).given now k
-      completions_now k alive = elim (either k cq) [
-        | inl same ↦
-            let here = completions_gain d st.lists lists (poll_side programs w cq) (w.threads (poller_of programs cq)).given v now cq stands gains_here in
-            subst (λ (n : ℕ). CompletionsStand d lists (poll_side programs w n) (w.threads (poller_of programs n)).given now n) (sym same) here
-        | inr differ ↦
-            let h = st.completions k alive in
-            completions_gain d st.lists lists (poll_side programs w k) (w.threads (poller_of programs k)).given v now k h (gains_other k h.from differ h.produced h.runs)
-      ]
-
-      queue_now : (queue : Queue) (x : counted.Queue) → QueueStands d programs w v x queue → QueueStands d programs (with_adapter w rule) now x queue
-      queue_now queue x h = record { posted = h.posted; rung = h.rung; taken = h.taken; retired = h.retired; room = h.room; segments = h.segments; told = h.told }
+      completions_now : (k : ℕ) → Lives d (Completions k) → CompletionsStand d lists (poll_side programs w k) ((view programs w).given k) now k
+      completions_now = number_by (λ k b. Lives d (Completions k) → CompletionsIn d k st.lists.queues (if b then longer else st.lists.completions k) (poll_side programs w k) ((view programs w).given k) (if b then told else v.completions k) (ends_in v)) cq
+          (λ alive. gains_now) (λ k differ alive. st.bare.state.completions k alive)
 
       -- it is published
       pub published_stands : (x : Completion) → x ≡ u.completion → completions.Tied place (after_entry m e) device host longer → Stands d programs total (after_entry m e) (with_adapter w (next_visit d rule)) (after v (Publish cq x)) dues
       published_stands x is t =
+          let was = st.bare.sound.declared in
           let bare : Bare d programs total (after_entry m e) (with_adapter w rule) lists now dues = record {
             objects = device_moves lists (record { queues = λ queue. refl; completions = λ k differ. put_there st.lists.completions cq longer k differ })
                 (subst (λ (y : PlainQueue). completions.Tied place (after_entry m e) device host y) (sym lists_here) t);
-            queues = λ queue alive. queue_now queue (st.lists.queues queue) (st.queues queue alive);
-            completions = completions_now;
-            taken = st.adapter.taken;
-            threads = st.threads;
-            declared = record { pairs = st.declared.pairs; pair_lives = st.declared.pair_lives; completions_live = st.declared.completions_live };
-            long = st.long;
-            sane = subst (λ (acts : List Act). sane.Sane (length d.qps) total (publish v cq acts) dues) o.owed (goes x is).sane;
+            state = record { queues = λ queue alive. let h = st.bare.state.queues queue alive in record { posted = h.posted; rung = h.rung; taken = h.taken; retired = h.retired; room = h.room; segments = h.segments; told = h.told }; completions = completions_now; taken = st.bare.state.taken };
+            threads = st.bare.threads;
+            sound = record {
+              declared = record { pairs = was.pairs; pair_lives = was.pair_lives; completions_live = was.completions_live };
+              long = st.bare.sound.long;
+              sane = subst (λ (acts : List Act). sane.Sane (length d.qps) total (publish v cq acts) dues) o.owed (goes x is).sane;
+            };
           } in
           subst (λ (acts : List Act). Stands d programs total (after_entry m e) (with_adapter w (next_visit d rule)) (publish v cq acts) dues) (sym o.owed)
           (to_next d programs total (after_entry m e) w lists now dues rule bare refl)

@@ -1,18 +1,19 @@
 -- What ties a completion queue of words, and the poll that is under way, to the abstract state.
-use Rattle.std.proofs.Common.{◌≡◌, ℕ, ◌+◌, ◌-◌, ◌<◌, ◌≤◌, ◌==◌, Bool, true, false, List, [], ◌∷◌, length, map, take, slice_get, filter, position, Option, None, Some, if◌then◌else◌}
+use Rattle.std.proofs.Common.{Bool, ◌≡◌, ℕ, ◌+◌, ◌-◌, ◌<◌, ◌≤◌, ◌==◌, false, List, [], ◌∷◌, length, map, take, slice_get, position, Option, None, Some, if◌then◌else◌}
 use Rattle.std.specs.List.{AllByRecursion}
 use Rattle.verbs_types.specs.declared.completion.Completion.{Completion}
 use Rattle.verbs_types.specs.declared.completion.Queue.TheVariants.{Send}
 use Rattle.verbs_types.specs.declared.declaration.Lines.{Lines}
 use Rattle.verbs_types.specs.declared.state.Unpolled.{Unpolled}
 use Rattle.verbs_rules.specs.Rows.{nop_completion}
-use Rattle.verbs_rules.specs.State.{Verbs, CompletionQueue}
+use Rattle.verbs_rules.specs.State.{CompletionQueue, Verbs}
 use Rattle.cqe_format.specs.declared.completion.Cqe.{Cqe}
 use Rattle.owner_ring.specs.Place.{size}
 use Rattle.owner_ring.specs.Consumer.{Consumer, Waiting, Reading, next_index}
 use Rattle.cq_pair.specs.Place.{ring_of}
 use Rattle.cq_pair.specs.Queue.{PlainQueue, produced, since}
-use Rattle.counted_ring.specs.Queue.{index_of}
+use Rattle.counted_ring.specs.Queue as counted
+use Rattle.verbs_types.specs.declared.completion.Queue.{Queue}
 use Rattle.counted_ring.specs.Retirer.{Asked, Retirer}
 use Rattle.counted_ring.proofs.Requests.{request_of}
 use Rattle.object_places.specs.Objects.{Lives, Sends}
@@ -29,11 +30,14 @@ use Rattle.actor_rules.proofs.Matching.{Match}
 use Rattle.actor_rules.proofs.Objects.{Lists, retirer_in}
 
 -- A completion of words is this one: of a request that was taken, at its block, with its id.
-pub record IsCompletion (l : Lists) (c : Cqe) (u : Unpolled) : Type 0 where
+pub record IsCompletionOf (words_of : Queue → counted.Queue) (c : Cqe) (u : Unpolled) : Type 0 where
   pub some : 0 < u.number
-  pub taken : u.number ≤ (l.queues (Send u.completion.qp)).taken
-  pub words : c ≡ nop_cqe u.completion.qp (index_of (l.queues (Send u.completion.qp)) (u.number - 1))
-  pub told : u.completion ≡ nop_completion u.completion.qp (request_of (l.queues (Send u.completion.qp)) (u.number - 1)).id 0
+  pub taken : u.number ≤ (words_of (Send u.completion.qp)).taken
+  pub words : c ≡ nop_cqe u.completion.qp (counted.index_of (words_of (Send u.completion.qp)) (u.number - 1))
+  pub told : u.completion ≡ nop_completion u.completion.qp (request_of (words_of (Send u.completion.qp)) (u.number - 1)).id 0
+
+abbrev pub IsCompletion : Lists → Cqe → Unpolled → Type 0
+IsCompletion l = IsCompletionOf l.queues
 
 -- how many completions the poll under way holds, of which no entry tells yet
 abbrev pub held : PollState → ℕ
@@ -66,10 +70,10 @@ pub record IsGiven (d : Lines) (cq : ℕ) (retirers : List Retirer) (completions
   pub given : completions ≡ map completion_in (take (length found) us)
 
 -- the next one is looked up
-pub record IsLookedUp (d : Lines) (cq : ℕ) (l : Lists) (c : Cqe) (queue : ℕ) (next : Option Unpolled) : Type 0 where
+pub record IsLookedUpIn (d : Lines) (cq : ℕ) (words_of : Queue → counted.Queue) (c : Cqe) (queue : ℕ) (next : Option Unpolled) : Type 0 where
   pub unpolled : Unpolled
   pub next_is : next ≡ Some unpolled
-  pub spells : IsCompletion l c unpolled
+  pub spells : IsCompletionOf words_of c unpolled
   pub queue_is : queue ≡ place_in d cq unpolled.completion.qp
 
 -- an end that is to be stored was found, and its queue is that of a queue pair that completes here
@@ -80,12 +84,18 @@ pub record IsPending (d : Lines) (cq : ℕ) (retirers : List Retirer) (e : End) 
   pub found : e.end ≤ (retirer_in retirers e.queue).found
 
 -- how far the poll under way has come, with what it has given
+abbrev pub PollIn : Lines → ℕ → (Queue → counted.Queue) → List Retirer → List Completion → List Unpolled → PollState → Type 0
+PollIn d cq words_of retirers given us states.Idle = Unit {0}
+PollIn d cq words_of retirers given us (states.Polling most ends) = IsGiven d cq retirers given ends.items us × (length ends.items < most) × (most ≤ 16)
+PollIn d cq words_of retirers given us (states.LookingUp most ends c queue) = IsGiven d cq retirers given ends.items us × (length ends.items < most) × (most ≤ 16) × IsLookedUpIn d cq words_of c queue (slice_get us (length ends.items))
+PollIn d cq words_of retirers given us (states.Retiring taken empty left) = (0 < length left.items) × (0 < taken) × AllByRecursion (IsPending d cq retirers) left.items
+PollIn d cq words_of retirers given us (states.Acking taken empty) = 0 < taken
+
+abbrev pub IsLookedUp : Lines → ℕ → Lists → Cqe → ℕ → Option Unpolled → Type 0
+IsLookedUp d cq l c queue next = IsLookedUpIn d cq l.queues c queue next
+
 abbrev pub PollStands : Lines → ℕ → Lists → PollRule → List Completion → List Unpolled → PollState → Type 0
-PollStands d cq l p given us states.Idle = Unit {0}
-PollStands d cq l p given us (states.Polling most ends) = IsGiven d cq p.retirers given ends.items us × (length ends.items < most) × (most ≤ 16)
-PollStands d cq l p given us (states.LookingUp most ends c queue) = IsGiven d cq p.retirers given ends.items us × (length ends.items < most) × (most ≤ 16) × IsLookedUp d cq l c queue (slice_get us (length ends.items))
-PollStands d cq l p given us (states.Retiring taken empty left) = (0 < length left.items) × (0 < taken) × AllByRecursion (IsPending d cq p.retirers) left.items
-PollStands d cq l p given us (states.Acking taken empty) = 0 < taken
+PollStands d cq l p given us state = PollIn d cq l.queues p.retirers given us state
 
 -- a lookup that has loaded an id is that of the completion that is looked up
 abbrev pub AskedFor : PollState → ℕ → Option Asked → Type 0
@@ -98,18 +108,29 @@ abbrev pub ReadsNext : Consumer → Type 0
 ReadsNext (Waiting acked next) = Unit {0}
 ReadsNext (Reading acked next index last words) = index ≡ next
 
-pub record CompletionsStand (d : Lines) (l : Lists) (p : PollRule) (given : List Completion) (v : Verbs) (cq : ℕ) : Type 0 where
-  pub acked : (v.completions cq).acked ≡ (l.completions cq).acked
-  pub produced : (v.completions cq).produced ≡ produced (l.completions cq)
-  pub size : (v.completions cq).size ≡ size (ring_of (completions_of d cq))
-  pub runs : (l.completions cq).overrun ≡ false
+-- the counts of the abstract queue are those of the words
+pub record Counts (acked_is produced_is size_is : ℕ) (overrun_is : Bool) (acked_words produced_words size_words : ℕ) : Type 0 where
+  pub acked : acked_is ≡ acked_words
+  pub produced : produced_is ≡ produced_words
+  pub size : size_is ≡ size_words
+  pub runs : overrun_is ≡ false
+
+-- A completion queue of words, polled so, stands for this one, where the requests are of these work queues and these ends are told.
+pub record CompletionsIn (d : Lines) (cq : ℕ) (words_of : Queue → counted.Queue) (q : PlainQueue) (p : PollRule) (given : List Completion) (u : CompletionQueue) (ends_of : ℕ → List ℕ) : Type 0 where
+  pub counts : Counts u.acked u.produced u.size q.overrun q.acked (produced q) (size (ring_of (completions_of d cq)))
   -- the index of the oldest completion of which no poll's entry tells
   pub from : ℕ
   pub from_is : from + held p.state ≡ next_index p.host
-  pub low : (l.completions cq).acked ≤ from
-  pub unpolled : Match (IsCompletion l) (since (l.completions cq) from) (v.completions cq).unpolled
+  pub low : q.acked ≤ from
+  pub unpolled : Match (IsCompletionOf words_of) (since q from) u.unpolled
   pub reads : ReadsNext p.host
-  pub poll : PollStands d cq l p given (v.completions cq).unpolled p.state
+  pub poll : PollIn d cq words_of p.retirers given u.unpolled p.state
   pub retirers : length p.retirers ≡ length (completing d cq)
   pub asked : (place : ℕ) → AskedFor p.state place (retirer_in p.retirers place).asked
-  pub ends : (qp : ℕ) → Lives d (Sends qp) → send_cq d qp ≡ cq → (v.queues (Send qp)).ends ≡ ends_on (place_in d cq qp) (pending p.state)
+  pub ends : (qp : ℕ) → Lives d (Sends qp) → send_cq d qp ≡ cq → ends_of qp ≡ ends_on (place_in d cq qp) (pending p.state)
+
+abbrev pub ends_in : Verbs → ℕ → List ℕ
+ends_in v qp = (v.queues (Send qp)).ends
+
+abbrev pub CompletionsStand : Lines → Lists → PollRule → List Completion → Verbs → ℕ → Type 0
+CompletionsStand d l p given v cq = CompletionsIn d cq l.queues (l.completions cq) p given (v.completions cq) (ends_in v)

@@ -1,6 +1,5 @@
 -- What stays of the requests of a queue while it grows.
-use Rattle.std.proofs.Common.{◌≡◌, ℕ, ◌<◌, ◌≤◌, ◌-◌, refl, sym, ap, ◌∙◌, subst, arith, Bool, true, false, List, length}
-use Rattle.verbs_types.specs.declared.completion.Completion.{Completion}
+use Rattle.std.proofs.Common.{◌≡◌, ℕ, ◌<◌, ◌≤◌, ◌-◌, refl, sym, ap, ◌∙◌, subst, arith, Bool, true, false, length}
 use Rattle.verbs_types.specs.declared.completion.Queue.TheVariants.{Send}
 use Rattle.verbs_types.specs.declared.state.Unpolled.{Unpolled}
 use Rattle.verbs_rules.specs.Rows.{nop_completion}
@@ -17,6 +16,9 @@ pub record Grows (q now : Queue) : Type 0 where
   pub taken : q.taken ≤ now.taken
   pub index : (n : ℕ) → n < q.taken → index_of now n ≡ index_of q n
   pub request : (n : ℕ) → n < q.taken → request_of now n ≡ request_of q n
+
+pub grows_refl : (q : Queue) → Grows q q
+grows_refl q = record { taken = omega arith; index = λ n low. refl; request = λ n low. refl }
 
 pub grows_same : (q now : Queue) → now ≡ q → Grows q now
 grows_same q now same = subst (λ (x : Queue). Grows q x) (sym same) (record { taken = omega arith; index = λ n low. refl; request = λ n low. refl })

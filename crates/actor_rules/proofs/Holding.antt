@@ -13,16 +13,19 @@ use Rattle.verbs_rules.specs.Start.{start_pair}
 use Rattle.verbs_rules.specs.State.{Verbs}
 use Rattle.verbs_rules.specs.Step.{MayStep}
 use Rattle.verbs_rules.specs.Running.{Running, after_turn}
-use Rattle.object_places.specs.Objects.{Object, Mark, Lives, Completions}
+use Rattle.device_engine.specs.State.{AdapterRule}
+use Rattle.verbs_types.specs.declared.completion.Queue.TheVariants.{Send}
+use Rattle.object_places.specs.Objects.{Mark, Lives, Completions, Sends}
 use Rattle.object_places.specs.Apart.{ArePlaced, AreApart}
-use Rattle.actor_rules.specs.Owners.{poller_of}
+use Rattle.actor_rules.specs.Thread.{Thread}
 use Rattle.actor_rules.specs.Actors.{Actors, MayAny, after, says}
 use Rattle.actor_rules.specs.Dues.{dues_at}
 use Rattle.verbs_rules.specs.Sane.{Bounds, Sane}
-use Rattle.actor_rules.proofs.Objects.{Lists, IsTied, poll_side}
-use Rattle.actor_rules.proofs.Queues.{QueueLives, QueueStands}
+use Rattle.actor_rules.proofs.View.{View, view}
+use Rattle.actor_rules.proofs.Objects.{Lists, AllTiedIn}
+use Rattle.actor_rules.proofs.Queues.{QueueLives, QueueIn}
 use Rattle.actor_rules.proofs.Completions.{CompletionsStand}
-use Rattle.actor_rules.proofs.Adapter.{AdapterStands}
+use Rattle.actor_rules.proofs.Adapter.{AdapterStandsAt}
 use Rattle.actor_rules.proofs.Threads.{ThreadStands}
 
 -- the queue pairs and what lives are as they were declared
@@ -31,17 +34,36 @@ pub record AsDeclared (d : Lines) (v : Verbs) : Type 0 where
   pub pair_lives : (qp : ℕ) → v.pair_lives qp ≡ is_among FIRST_QP (length d.qps) qp
   pub completions_live : (cq : ℕ) → v.completions_live cq ≡ is_among 0 (length d.cqs) cq
 
--- Each queue of words stands for its queue of the abstract state, each actor is where the state has it, and the state itself is sane.
-pub record Stands (d : Lines) (programs : List (List Call)) (total : Bounds) (m : Memory) (w : Actors) (v : Verbs) (dues : List (List Due)) : Type 0 where
-  pub lists : Lists
-  pub objects : (o : Object) → Lives d o → IsTied d programs m w lists o
-  pub queues : (queue : Queue) → QueueLives d queue → QueueStands d programs w v (lists.queues queue) queue
-  pub completions : (cq : ℕ) → Lives d (Completions cq) → CompletionsStand d lists (poll_side programs w cq) (w.threads (poller_of programs cq)).given v cq
-  pub adapter : AdapterStands d lists v w.adapter
-  pub threads : (t : ℕ) → ThreadStands d programs (suc t) (w.threads (suc t)) (dues_at dues (suc t))
+-- each queue of words stands for its queue of the abstract state
+pub record StateIn (d : Lines) (s : View) (l : Lists) (v : Verbs) : Type 0 where
+  pub queues : (queue : Queue) → QueueLives d queue → QueueIn d s v (l.queues queue) queue
+  pub completions : (cq : ℕ) → Lives d (Completions cq) → CompletionsStand d l (s.polls cq) (s.given cq) v cq
+  pub taken : (qp : ℕ) → Lives d (Sends qp) → s.taken qp ≡ (v.queues (Send qp)).taken
+
+-- the state and what is owed are sound in themselves
+pub record IsSound (d : Lines) (programs : List (List Call)) (total : Bounds) (v : Verbs) (dues : List (List Due)) : Type 0 where
   pub declared : AsDeclared d v
   pub long : length dues ≡ length programs
   pub sane : Sane (length d.qps) total v dues
+
+-- All that stands but for the adapter's work.
+pub record BareIn (d : Lines) (programs : List (List Call)) (total : Bounds) (m : Memory) (s : View) (threads_are : ℕ → Thread) (l : Lists) (v : Verbs) (dues : List (List Due)) : Type 0 where
+  pub objects : AllTiedIn d m s l
+  pub state : StateIn d s l v
+  pub threads : (t : ℕ) → ThreadStands d programs (suc t) (threads_are (suc t)) (dues_at dues (suc t))
+  pub sound : IsSound d programs total v dues
+
+-- So it is for some queues of words, and the adapter's work is what the state owes.
+pub record StandsIn (d : Lines) (programs : List (List Call)) (total : Bounds) (m : Memory) (s : View) (threads_are : ℕ → Thread) (a : AdapterRule) (v : Verbs) (dues : List (List Due)) : Type 0 where
+  pub lists : Lists
+  pub bare : BareIn d programs total m s threads_are lists v dues
+  pub work : AdapterStandsAt d lists v a a.at_work
+
+abbrev pub Bare : Lines → List (List Call) → Bounds → Memory → Actors → Lists → Verbs → List (List Due) → Type 0
+Bare d programs total m w l v dues = BareIn d programs total m (view programs w) w.threads l v dues
+
+abbrev pub Stands : Lines → List (List Call) → Bounds → Memory → Actors → Verbs → List (List Due) → Type 0
+Stands d programs total m w v dues = StandsIn d programs total m (view programs w) w.threads w.adapter v dues
 
 pub record Holds (d : Lines) (programs : List (List Call)) (total : Bounds) (m : Memory) (w : Actors) (r : Running) : Type 0 where
   pub dues : List (List Due)

@@ -1,6 +1,5 @@
 -- The law of the whole: each operation keeps what holds, so what all operations say is legal, and answers each thread's calls.
-use Rattle.std.proofs.Common.{◌≡◌, ℕ, zero, suc, refl, sym, ap, subst, ◌∙◌, List, [], ◌∷◌, map, length, Option, None, Some, option_map, slice_index_or}
-use Rattle.std.specs.List.{AllByRecursion, flat_map}
+use Rattle.std.proofs.Common.{◌≡◌, ℕ, zero, suc, refl, subst, List, [], ◌∷◌, map, option_map}
 use Rattle.bus_core.specs.Follow.{Follows}
 use Rattle.bus_core.specs.Mark.{Marked}
 use Rattle.bus_core.specs.Trace.{Memory, Tells, after_entry}
@@ -9,28 +8,27 @@ use Rattle.verbs_types.specs.declared.call.Call.TheVariants.{Post, Recv, Poll, D
 use Rattle.verbs_types.specs.declared.completion.Queue.TheVariants as queues
 use Rattle.verbs_types.specs.declared.declaration.Lines.{Lines}
 use Rattle.verbs_types.specs.declared.request.Item.TheVariants.{Request as TheRequest, Receive as TheReceive}
-use Rattle.verbs_rules.specs.Answered.{Due, MayAnswer, after_answer, due_by, own_entries}
+use Rattle.verbs_rules.specs.Answered.{Due, MayAnswer, after_answer, own_entries}
 use Rattle.verbs_rules.specs.Sane.{Bounds}
 use Rattle.verbs_rules.specs.Start.{start}
-use Rattle.verbs_rules.specs.Running.{Running, after_turn}
+use Rattle.verbs_rules.specs.Running.{Running}
 use Rattle.actor_map.specs.Start.{start_words}
 use Rattle.object_places.specs.Apart.{ArePlaced, AreApart, AreAtStart}
 use Rattle.object_places.specs.Objects.{Mark}
-use Rattle.actor_rules.specs.Actors.{Actors, May, MayAny, fresh_actors, by, after, after_by, part, says, what_of, posted_with}
+use Rattle.actor_rules.specs.Actors.{Actors, May, fresh_actors, by, after_by, part, what_of, posted_with}
 use Rattle.actor_rules.specs.Calls.{MayCall, after_call, call_says}
 use Rattle.actor_rules.specs.Dues.{dues_at}
 use Rattle.actor_rules.specs.Family.{put_number}
-use Rattle.actor_rules.specs.Ready.{AreReady, IsOwnCall, first_dues}
+use Rattle.actor_rules.specs.Ready.{AreReady, first_dues}
 use Rattle.actor_rules.specs.Run.{IsRun, IsHistory, history}
-use Rattle.actor_rules.specs.Thread.{Thread, program_of}
+use Rattle.actor_rules.specs.Thread.{Thread}
 use Rattle.actor_rules.proofs.AdapterGoes.{adapter_goes}
 use Rattle.actor_rules.proofs.EndGoes.{end_goes}
-use Rattle.actor_rules.proofs.Holding.{Holds, Goes, IsMapped, MayTurn, Step}
+use Rattle.actor_rules.proofs.Holding.{Holds, Goes, IsMapped, Step}
 use Rattle.actor_rules.proofs.PollGoes.{poll_goes, drain_goes}
 use Rattle.actor_rules.proofs.PostCalls.{post_call, receive_call}
 use Rattle.actor_rules.proofs.PostGoes as post
 use Rattle.actor_rules.proofs.StartHolds.{CanAct, start_holds, first_owed}
-use Rattle.actor_rules.proofs.Threads.{StandsAt}
 use Rattle.actor_rules.proofs.Woven.{all_keep, turns_follow, legal_turns, answered_turns}
 
 module _ (d : Lines) (programs : List (List Call)) (bounds : Bounds) (map_ok : IsMapped d) (m : Memory) (w : Actors) (r : Running) (x : Marked Mark) (holds : Holds d programs bounds m w r) (tells : Tells m x.entry) (t : ℕ) (actor : x.entry.actor ≡ suc t) where
@@ -44,11 +42,11 @@ module _ (d : Lines) (programs : List (List Call)) (bounds : Bounds) (map_ok : I
   by_calls : (calls : List Call) → s.calls ≡ calls → MayCall d s (suc t) calls x → Goal calls
   by_calls [] is may = end_goes d programs bounds w t map_ok m r x holds may
   by_calls (Post qp requests ∷ rest) is may =
-      let stands = holds.stands.threads t in
+      let stands = holds.stands.bare.threads t in
       let call = post_call d programs (suc t) s qp requests rest is stands.calls stands.work in
       post.post_goes d programs bounds map_ok m w r x holds t (queues.Send qp) (map TheRequest requests) rest call.lives call tells may
   by_calls (Recv qp receives ∷ rest) is may =
-      let stands = holds.stands.threads t in
+      let stands = holds.stands.bare.threads t in
       let call = receive_call d programs (suc t) s qp receives rest is stands.calls stands.work in
       post.post_goes d programs bounds map_ok m w r x holds t (queues.Recv qp) (map TheReceive receives) rest call.lives call tells may
   by_calls (Poll cq most ∷ rest) is may = subst Goal is (poll_goes d programs bounds map_ok m w r x t cq most rest holds actor is tells may)

@@ -1,6 +1,9 @@
 pub mod Families
 pub mod Dues
 pub mod Matching
+pub mod Threading
+pub mod PerQueue
+pub mod View
 pub mod Objects
 pub mod Queues
 pub mod Completions
@@ -9,16 +12,14 @@ pub mod Threads
 pub mod Holding
 pub mod Frame
 pub mod Growing
+pub mod Kept
 pub mod Woven
 pub mod StartHolds
-pub mod Threading
 pub mod EndGoes
 pub mod PostOutcome
-pub mod PostStands
 pub mod PostNow
 pub mod PostCalls
 pub mod PostEnds
-pub mod PerQueue
 pub mod AdapterKeeps
 pub mod AdapterLooks
 pub mod AdapterQueues

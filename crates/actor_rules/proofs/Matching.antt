@@ -1,5 +1,5 @@
 -- Two lists whose items belong together, one by one.
-use Rattle.std.proofs.Common.{◌≡◌, ℕ, zero, suc, ◌<◌, ◌+◌, ◌++◌, arith, refl, ap, subst, List, [], ◌∷◌, length, take, drop, slice_get, unwrap_or, is_some, Option, Some, None}
+use Rattle.std.proofs.Common.{◌≡◌, ℕ, zero, suc, ◌++◌, refl, ap, subst, List, [], ◌∷◌, length, take, drop, slice_get, unwrap_or, is_some, Some}
 use Rattle.std.proofs.lemmas.Bool.{false≢true}
 
 abbrev pub Match : {X Y : Type 0} → (X → Y → Type 0) → List X → List Y → Type 0

@@ -3,12 +3,11 @@ use Rattle.std.proofs.Common.{◌≡◌, ℕ, refl, sym, ap, ◌∙◌, subst, a
 use Rattle.std.proofs.lemmas.List.{length-drop}
 use Rattle.bus_core.specs.declared.operation.BusEntry.{BusEntry}
 use Rattle.bus_core.specs.Trace.{Memory, after_entry, Tells}
-use Rattle.verbs_types.specs.declared.call.Call.{Call}
 use Rattle.verbs_types.specs.declared.completion.Completion.{Completion}
 use Rattle.verbs_types.specs.declared.declaration.Lines.{Lines}
 use Rattle.verbs_types.specs.declared.entry.What.TheVariants.{Ack}
 use Rattle.verbs_types.specs.declared.state.Unpolled.{Unpolled}
-use Rattle.verbs_rules.specs.State.{CompletionQueue, Verbs}
+use Rattle.verbs_rules.specs.State.{Verbs}
 use Rattle.verbs_rules.specs.Step.{after}
 use Rattle.owner_ring.specs.Place.{size}
 use Rattle.owner_ring.specs.Consumer.{Consumer, next_index}
@@ -31,21 +30,22 @@ use Rattle.provider_poll.specs.Rule.{PollRule, OnHost, MayAcknowledge}
 use Rattle.provider_poll.specs.RuleStep.{poll_side_step, after_poll_side}
 use Rattle.actor_rules.specs.Thread.{poll_place}
 use Rattle.actor_rules.specs.Polling.{store_says}
-use Rattle.actor_rules.specs.Actors.{Actors}
-use Rattle.actor_rules.proofs.Matching.{Match, match_weaken, match_length}
+use Rattle.actor_rules.proofs.View.{View}
+use Rattle.actor_rules.proofs.Matching.{Match, match_length}
 use Rattle.actor_rules.proofs.Objects.{Lists, retirer_in}
-use Rattle.actor_rules.proofs.Completions.{CompletionsStand, IsCompletion, AskedFor}
-use Rattle.actor_rules.proofs.PollFrame.{put_here, put_there, work_refl, requests_refl, completion_same}
+use Rattle.actor_rules.proofs.Completions.{CompletionsIn, ends_in, IsCompletion, AskedFor}
+use Rattle.actor_rules.proofs.PollFrame.{work_refl}
+use Rattle.actor_rules.proofs.Threading.{put_here, put_there}
 use Rattle.actor_rules.proofs.PollNow.{PollNow}
 use Rattle.actor_rules.proofs.PollOutcomes.{Outcome, Ends}
-use Rattle.actor_rules.proofs.PollMoves.{VerbsKept, host_moves, only}
+use Rattle.actor_rules.proofs.PollMoves.{VerbsKept, host_moves}
 
 idle_acking : (taken : ℕ) (empty : Option ℕ) (place : ℕ) (asked : Option Asked) → AskedFor (states.Acking taken empty) place asked → AskedFor states.Idle place asked
 idle_acking taken empty place None h = tt
 idle_acking taken empty place (Some a) h = absurd h
 
-module _ (d : Lines) (programs : List (List Call)) (m : Memory) (w : Actors) (t cq most : ℕ) (l : Lists) (v : Verbs) (c : Consumer) (seen : ℕ) (rs : List Retirer) (taken : ℕ) (empty : Option ℕ) (given : List Completion)
-    (now : PollNow d programs m w t cq most l v (record { host = c; seen = seen; retirers = rs; state = states.Acking taken empty }) given) (e : BusEntry) (tells : Tells m e) where
+module _ (d : Lines) (m : Memory) (around : View) (cq most : ℕ) (l : Lists) (v : Verbs) (c : Consumer) (seen : ℕ) (rs : List Retirer) (taken : ℕ) (empty : Option ℕ) (given : List Completion)
+    (now : PollNow d m around cq most l v (record { host = c; seen = seen; retirers = rs; state = states.Acking taken empty }) given) (e : BusEntry) (tells : Tells m e) where
   abbrev side : PollRule
   side = record { host = c; seen = seen; retirers = rs; state = states.Acking taken empty }
 
@@ -76,13 +76,13 @@ module _ (d : Lines) (programs : List (List Call)) (m : Memory) (w : Actors) (t 
   from_is = let same : now.stands.from ≡ now.stands.from + 0 = omega arith in same ∙ now.stands.from_is
 
   within : index ≤ produced q
-  within = omega (arith, (ring_tied.known now.host.entries c now.host.ring.consumer).next_in, completions.same_produced now.host.entries (w.adapter.queues cq) c q now.host.fits)
+  within = omega (arith, (ring_tied.known now.host.entries c now.host.ring.consumer).next_in, completions.same_produced now.host.entries (around.devices cq) c q now.host.fits)
 
   oldest_is : index ≡ oldest
   oldest_is =
       let words = match_length (IsCompletion l) (since q now.stands.from) us now.stands.unpolled in
       let counted = (reads_as_history (size (ring_of (completions_of d cq))) q).counted now.stands.from now.stands.low (omega (arith, from_is, within)) in
-      omega (arith, words, counted, now.stands.produced, from_is)
+      omega (arith, words, counted, now.stands.counts.produced, from_is)
 
   ack_keeps : VerbsKept d cq v v'
   ack_keeps = record {
@@ -98,32 +98,28 @@ module _ (d : Lines) (programs : List (List Call)) (m : Memory) (w : Actors) (t 
     abbrev now_is : PollRule
     now_is = after_poll_side (poll_place d cq) side (OnHost mark) e
 
-    goes : completions.Goes (completions_of d cq) (after_entry m e) (w.adapter.queues cq) now_is.host q (Some (Acked index))
-    goes = host.host_step (completions_of d cq) m (w.adapter.queues cq) c q mark e now.fine now.host tells may
+    goes : completions.Goes (completions_of d cq) (after_entry m e) (around.devices cq) now_is.host q (Some (Acked index))
+    goes = host.host_step (completions_of d cq) m (around.devices cq) c q mark e now.fine now.host tells may
 
-    stands_then : CompletionsStand d (only l q') now_is [] v' cq
+    stands_then : CompletionsIn d cq l.queues q' now_is [] (v'.completions cq) (ends_in v')
     stands_then =
         let s = now.stands in
         let low : q.acked ≤ index = omega (arith, s.low, from_is) in
         let unpolled_is : since q' s.from ≡ since q s.from = (reads_as_history (size (ring_of (completions_of d cq))) q).acked index s.from goes.0 (omega (arith, from_is)) in
-        let unpolled : Match (IsCompletion (only l q')) (since q s.from) us = match_weaken (IsCompletion l) (IsCompletion (only l q')) (λ x u is. completion_same d l (only l q') (λ queue. requests_refl (l.queues queue)) x u is) (since q s.from) us s.unpolled in
-        record {
-          acked = ap (λ (x : CompletionQueue). x.acked) completions_now ∙ sym oldest_is;
-          produced = ap (λ (x : CompletionQueue). x.produced) completions_now ∙ s.produced ∙ (let same : produced q ≡ produced q' = omega (arith, length-drop (index - q.acked) q.completions, low, within) in same);
-          size = ap (λ (x : CompletionQueue). x.size) completions_now ∙ s.size;
-          runs = s.runs;
+        coe 1 0 (i. CompletionsIn d cq l.queues q' now_is [] (completions_now i) (ends_in v')) (record {
+          counts = record { acked = sym oldest_is; produced = s.counts.produced ∙ (let same : produced q ≡ produced q' = omega (arith, length-drop (index - q.acked) q.completions, low, within) in same); size = s.counts.size; runs = s.counts.runs };
           from = s.from;
           from_is = s.from_is;
           low = omega (arith, from_is);
-          unpolled = subst (λ (x : CompletionQueue). Match (IsCompletion (only l q')) (since q' s.from) x.unpolled) (sym completions_now) (subst (λ (cs : List Cqe). Match (IsCompletion (only l q')) cs us) (sym unpolled_is) unpolled);
+          unpolled = subst (λ (cs : List Cqe). Match (IsCompletion l) cs us) (sym unpolled_is) s.unpolled;
           reads = tt;
           poll = tt;
           retirers = s.retirers;
           asked = λ place. idle_acking taken empty place (retirer_in rs place).asked (s.asked place);
           ends = s.ends;
-        }
+        })
 
-    ends_call : Outcome d programs (after_entry m e) w t cq most l v side given now_is (poll_side_step (poll_place d cq) side (OnHost mark) e).answer (Some (Ack cq index))
+    ends_call : Outcome d (after_entry m e) around cq most l v side given now_is (poll_side_step (poll_place d cq) side (OnHost mark) e).answer (Some (Ack cq index))
     ends_call = Ends (record {
       taken = taken;
       word = empty;
@@ -133,8 +129,8 @@ module _ (d : Lines) (programs : List (List Call)) (m : Memory) (w : Actors) (t 
       before = refl;
       idle = refl;
       owed = refl;
-      moved = host_moves d programs m w t cq most l v side given now e now_is [] v' q' (record {
-        inside = poll_inside (completions_of d cq) m (w.adapter.queues cq) c q mark e now.host may;
+      moved = host_moves d m around cq most l v side given now e now_is [] v' q' (record {
+        inside = poll_inside (completions_of d cq) m (around.devices cq) c q mark e now.host may;
         tied = goes.1;
         retirers = refl;
         verbs = ack_keeps;
@@ -144,7 +140,7 @@ module _ (d : Lines) (programs : List (List Call)) (m : Memory) (w : Actors) (t 
     })
 
   pub acknowledges : (sent : QueueMark) → MayAcknowledge (poll_place d cq) side sent e
-      → Outcome d programs (after_entry m e) w t cq most l v side given (after_poll_side (poll_place d cq) side (OnHost sent) e) (poll_side_step (poll_place d cq) side (OnHost sent) e).answer (store_says (OnCompletions cq sent))
+      → Outcome d (after_entry m e) around cq most l v side given (after_poll_side (poll_place d cq) side (OnHost sent) e) (poll_side_step (poll_place d cq) side (OnHost sent) e).answer (store_says (OnCompletions cq sent))
   acknowledges sent may =
-      subst (λ (k : QueueMark). Outcome d programs (after_entry m e) w t cq most l v side given (after_poll_side (poll_place d cq) side (OnHost k) e) (poll_side_step (poll_place d cq) side (OnHost k) e).answer (store_says (OnCompletions cq k)))
+      subst (λ (k : QueueMark). Outcome d (after_entry m e) around cq most l v side given (after_poll_side (poll_place d cq) side (OnHost k) e) (poll_side_step (poll_place d cq) side (OnHost k) e).answer (store_says (OnCompletions cq k)))
       (sym may.index) (ends_call (subst (λ (k : QueueMark). MayPoll (completions_of d cq) c k e) may.index may.polls))

@@ -35,12 +35,22 @@ use Rattle.actor_rules.proofs.Queues.{accepted, written_by}
 use Rattle.actor_rules.specs.Ready.{IsOwnCall, IsOwnPoll}
 use Rattle.actor_rules.proofs.Threads.{ThreadStands, StandsAt, PollsAt, IsPollFor, IsPostAt, PollsRest, PostersRest}
 use Rattle.actor_rules.proofs.Holding.{Holds, Goes}
-use Rattle.actor_rules.proofs.PollFrame.{put_here, put_there, goes_on, poll_goes_on, Moves, IsPoller, stands_after}
+use Rattle.actor_rules.proofs.View.{view, given_in}
+use Rattle.actor_rules.proofs.Threading.{put_here, put_there}
+use Rattle.actor_rules.proofs.PollFrame.{goes_on, poll_goes_on, Moves, IsPoller, stands_after}
 use Rattle.verbs_rules.specs.Sane.{Bounds}
 
 -- by how far the poll has come, with what is owed after it
 abbrev pub owed_at : Lines → ℕ → Due → List Due → PollState → List Due
 owed_at d cq due more state = (if is_storing state then store_dues d cq state else due ∷ []) ++ more
+
+-- what a poll shows of what its thread has given
+pub shown_for : (most : ℕ) (given : List Completion) (state : PollState) → IsPollFor most given state → given_in state given ≡ given
+shown_for most given states.Idle h = sym h
+shown_for most given (states.Polling asked ends) h = refl
+shown_for most given (states.LookingUp asked ends c queue) h = refl
+shown_for most given (states.Retiring taken empty left) h = refl
+shown_for most given (states.Acking taken empty) h = refl
 
 -- A thread at rest
 
@@ -157,10 +167,10 @@ module _ (d : Lines) (programs : List (List Call)) (total : Bounds) (m m' : Memo
   th = w.threads (suc t)
 
   pub polls_at : PollsAt th cq most
-  polls_at = job.leave th (subst (StandsAt th) calls_are (h.stands.threads t).work)
+  polls_at = job.leave th (subst (StandsAt th) calls_are (h.stands.bare.threads t).work)
 
   pub owed_now : dues_of_thread h.dues t ≡ owed_at d cq job.due job.more (th.polls cq).state
-  owed_now = (h.stands.threads t).dues ∙ ap (λ (cs : List Call). call_dues d th cs) calls_are ∙ job.owes th
+  owed_now = (h.stands.bare.threads t).dues ∙ ap (λ (cs : List Call). call_dues d th cs) calls_are ∙ job.owes th
 
   poller : (calls' : List Call) → IsPoller d programs w t cq total calls'
   poller calls' = record {
@@ -185,12 +195,12 @@ module _ (d : Lines) (programs : List (List Call)) (total : Bounds) (m m' : Memo
     }
 
     -- nothing is said, and nothing else is owed
-    pub silent_goes : IsPollFor most given p.state → owed_at d cq job.due job.more p.state ≡ owed_at d cq job.due job.more (th.polls cq).state → Moves d programs w t cq m' h.stands.lists r.verbs p given r.verbs → Goes d programs total m' (poll_goes_on w t cq p given calls) r None
+    pub silent_goes : IsPollFor most given p.state → owed_at d cq job.due job.more p.state ≡ owed_at d cq job.due job.more (th.polls cq).state → Moves d (view programs w) cq m' h.stands.lists r.verbs p given r.verbs → Goes d programs total m' (poll_goes_on w t cq p given calls) r None
     silent_goes poll same move = record {
       dues = h.dues;
       owed = h.owed;
       stands = stands_after d programs w t cq total m m' r.verbs r.verbs h.dues h.dues p given calls h.stands move (poller calls)
-          (record { thread = subst (λ (ds : List Due). ThreadStands d programs (suc t) (goes_on th cq p given calls) ds) (same ∙ sym owed_now) (thread_goes_on poll); others = λ j apart. refl; long = refl }) h.stands.sane;
+          (record { thread = subst (λ (ds : List Due). ThreadStands d programs (suc t) (goes_on th cq p given calls) ds) (same ∙ sym owed_now) (thread_goes_on poll); others = λ j apart. refl; long = refl; shown = shown_for most given p.state poll }) h.stands.bare.sound.sane;
     }
 
   -- a poll that is over
@@ -209,10 +219,10 @@ module _ (d : Lines) (programs : List (List Call)) (total : Bounds) (m m' : Memo
       by_queue k (inr apart) = ap (λ (x : PollRule). x.state) (put_there th.polls cq p k apart) ∙ polls_at.polls k apart
 
   -- an entry is said, which was owed next
-  pub says_goes : (what : What) (p : PollRule) (given : List Completion) (calls' : List Call) (due : Due) (rest left : List Due) → dues_of_thread h.dues t ≡ due ∷ rest → Answers due what → left_by due what ≡ left
+  pub says_goes : (what : What) (p : PollRule) (given : List Completion) (calls' : List Call) (due : Due) (rest left : List Due) → given_in p.state given ≡ given → dues_of_thread h.dues t ≡ due ∷ rest → Answers due what → left_by due what ≡ left
       → sane.Goes (length d.qps) total r.verbs (suc t) what (slice_set h.dues t (left ++ rest)) → ThreadStands d programs (suc t) (goes_on th cq p given calls') (left ++ rest)
-      → Moves d programs w t cq m' h.stands.lists r.verbs p given (after r.verbs what) → Goes d programs total m' (poll_goes_on w t cq p given calls') r (Some (by (suc t) what))
-  says_goes what p given calls' due rest left is answers leaves goes thread move =
+      → Moves d (view programs w) cq m' h.stands.lists r.verbs p given (after r.verbs what) → Goes d programs total m' (poll_goes_on w t cq p given calls') r (Some (by (suc t) what))
+  says_goes what p given calls' due rest left shown is answers leaves goes thread move =
       let low : t < length h.dues = (owes_from h.dues t due rest is).low in
       let owed : r.owed (suc t) ≡ due ∷ rest = ap (λ (f : ℕ → List Due). f (suc t)) h.owed ∙ is in
       let after_is : after_answer (r.owed (suc t)) what ≡ left ++ rest = ap (λ (ds : List Due). after_answer ds what) owed ∙ ap (λ (ds : List Due). ds ++ rest) leaves in
@@ -226,6 +236,7 @@ module _ (d : Lines) (programs : List (List Call)) (total : Bounds) (m m' : Memo
                 thread = subst (λ (ds : List Due). ThreadStands d programs (suc t) (goes_on th cq p given calls') ds) (sym now) thread;
                 others = λ j apart. get_or-set_other h.dues t j (left ++ rest) [] apart;
                 long = length-set h.dues t (left ++ rest);
+                shown = shown;
               }) goes.sane;
         },
       )

@@ -19,6 +19,8 @@ use Rattle.verbs_rules.specs.Running.{Running}
 use Rattle.provider_poll.specs.declared.answer.PollAnswer.{PollAnswer}
 use Rattle.provider_poll.specs.declared.answer.PollAnswer.TheVariants.{Polled}
 use Rattle.provider_poll.specs.declared.state.PollState.{PollState}
+use Rattle.provider_poll.specs.declared.state.PollState.TheVariants as states
+use Rattle.actor_rules.proofs.View.{view, given_in}
 use Rattle.provider_poll.specs.Rule.{PollRule}
 use Rattle.actor_rules.specs.Family.{put_number}
 use Rattle.actor_rules.specs.Thread.{Thread}
@@ -33,10 +35,17 @@ use Rattle.verbs_laws.proofs.Waiting.{completion_in}
 use Rattle.actor_rules.proofs.Threads.{ThreadStands, IsPollFor}
 use Rattle.actor_rules.proofs.Holding.{Holds, Goes}
 use Rattle.actor_rules.proofs.PollFrame.{goes_on, Moves}
-use Rattle.actor_rules.proofs.PollDues.{Job, owed_at, owed_now, owes_from, silent_goes, says_goes, thread_goes_on, thread_ends}
+use Rattle.actor_rules.proofs.PollDues.{shown_for, Job, owed_at, owed_now, owes_from, silent_goes, says_goes, thread_goes_on, thread_ends}
 use Rattle.actor_rules.proofs.PollNow.{begun_owes}
 use Rattle.actor_rules.proofs.PollOutcomes.{Outcome, GoesOn, Takes, Nothing, Stores, Ends, Loads, Tells, FindsNone, Retires, Acknowledges, Speaks}
 use Rattle.verbs_rules.specs.Sane.{Bounds}
+
+shown_none : (state : PollState) → given_in state [] ≡ []
+shown_none states.Idle = refl
+shown_none (states.Polling most ends) = refl
+shown_none (states.LookingUp most ends c queue) = refl
+shown_none (states.Retiring taken empty left) = refl
+shown_none (states.Acking taken empty) = refl
 
 abbrev nothing_there : List Unpolled
 nothing_there = []
@@ -84,13 +93,13 @@ module _ (d : Lines) (programs : List (List Call)) (total : Bounds) (m m' : Memo
     abbrev wanted : Type 0
     wanted = goal p (given_after th.given answer) (calls_after answer) (speak said)
 
-    on_load : Loads d programs m' w t cq most h.stands.lists r.verbs now_is th.given p answer said → wanted
+    on_load : Loads d m' (view programs w) cq most h.stands.lists r.verbs now_is th.given p answer said → wanted
     on_load o =
         as_told p (given_after th.given answer) (calls_after answer) calls (speak said) None (speaks.goes_on answer o.goes_on) (ap speak o.silent ∙ speaks.silent)
         (silent_goes d programs total m m' w r t cq most h calls calls_are job p (given_after th.given answer) o.polls
         (owed_before d cq job.due job.more p.state o.loads ∙ sym (owed_before d cq job.due job.more now_is.state o.before) ∙ begun_owes d cq most job.due job.more (th.polls cq).state) o.moved)
 
-    on_tell : Tells d programs m' w t cq most h.stands.lists r.verbs now_is th.given p answer said → wanted
+    on_tell : Tells d m' (view programs w) cq most h.stands.lists r.verbs now_is th.given p answer said → wanted
     on_tell o =
         let us : List Unpolled = take most (r.verbs.completions cq).unpolled in
         let xs : List Completion = map completion_in us in
@@ -101,20 +110,20 @@ module _ (d : Lines) (programs : List (List Call)) (total : Bounds) (m m' : Memo
         let thread = subst (ThreadStands d programs (suc t) (goes_on th cq p (given_after th.given answer) calls)) (owed_behind d cq job.due job.more p.state o.stores ∙ ap (λ (ds : List Due). ds ++ job.more) o.owed)
         (thread_goes_on d programs total m m' w r t cq most h calls calls_are job p (given_after th.given answer) o.polls) in
         as_told p (given_after th.given answer) (calls_after answer) calls (speak said) (Some (Poll cq most xs)) (speaks.goes_on answer o.goes_on) (ap speak o.says ∙ speaks.tells xs some)
-        (says_goes d programs total m m' w r t cq most h calls calls_are job (Poll cq most xs) p (given_after th.given answer) calls job.due job.more (ends_owed cq us) is
-        (speaks.answers xs some (omega (arith, long, few))) (speaks.leaves xs) (speaks.goes (length d.qps) total r.verbs h.dues t job.more h.stands.sane (owes_from h.dues t job.due job.more is)) thread o.moved)
+        (says_goes d programs total m m' w r t cq most h calls calls_are job (Poll cq most xs) p (given_after th.given answer) calls job.due job.more (ends_owed cq us) (shown_for most _ p.state o.polls) is
+        (speaks.answers xs some (omega (arith, long, few))) (speaks.leaves xs) (speaks.goes (length d.qps) total r.verbs h.dues t job.more h.stands.bare.sound.sane (owes_from h.dues t job.due job.more is)) thread o.moved)
 
-    on_none : FindsNone d programs m' w t cq most h.stands.lists r.verbs now_is th.given p answer said → wanted
+    on_none : FindsNone d m' (view programs w) cq most h.stands.lists r.verbs now_is th.given p answer said → wanted
     on_none o = elim speaks.empty [
       | inl tells ↦
           let us : List Unpolled = take most (r.verbs.completions cq).unpolled in
           let none : us ≡ [] = ap (take most) o.none ∙ take_none most in
           let is : dues_of_thread h.dues t ≡ job.due ∷ job.more = owed_first ∙ owed_before d cq job.due job.more now_is.state o.before in
-          let goes = subst (λ (vs : List Unpolled). sane.Goes (length d.qps) total r.verbs (suc t) (Poll cq most (map completion_in vs)) (slice_set h.dues t (ends_owed cq vs ++ job.more))) none (speaks.goes (length d.qps) total r.verbs h.dues t job.more h.stands.sane (owes_from h.dues t job.due job.more is)) in
+          let goes = subst (λ (vs : List Unpolled). sane.Goes (length d.qps) total r.verbs (suc t) (Poll cq most (map completion_in vs)) (slice_set h.dues t (ends_owed cq vs ++ job.more))) none (speaks.goes (length d.qps) total r.verbs h.dues t job.more h.stands.bare.sound.sane (owes_from h.dues t job.due job.more is)) in
           subst (λ (x : Step Completion PollAnswer). goal p (given_after th.given x) (calls_after x) (speak said)) (sym o.over)
           (as_told p [] (calls_after (Done (Polled 0 o.word))) job.left (speak said) (Some (Poll cq most [])) (tells.over o.word) (ap speak o.says ∙ tells.says)
-          (says_goes d programs total m m' w r t cq most h calls calls_are job (Poll cq most []) p [] job.left job.due job.more [] is tells.answers (speaks.leaves []) goes
-          (thread_ends d programs total m m' w r t cq most h calls calls_are job p o.idle) (subst (λ (x : Verbs). Moves d programs w t cq m' h.stands.lists r.verbs p [] x) (sym (polls_none r.verbs cq most)) o.moved)))
+          (says_goes d programs total m m' w r t cq most h calls calls_are job (Poll cq most []) p [] job.left job.due job.more [] (shown_none p.state) is tells.answers (speaks.leaves []) goes
+          (thread_ends d programs total m m' w r t cq most h calls calls_are job p o.idle) (subst (λ (x : Verbs). Moves d (view programs w) cq m' h.stands.lists r.verbs p [] x) (sym (polls_none r.verbs cq most)) o.moved)))
       | inr again ↦
           let loads : is_storing p.state ≡ false = ap is_storing o.idle in
           subst (λ (x : Step Completion PollAnswer). goal p (given_after th.given x) (calls_after x) (speak said)) (sym o.over)
@@ -123,7 +132,7 @@ module _ (d : Lines) (programs : List (List Call)) (total : Bounds) (m m' : Memo
           (owed_before d cq job.due job.more p.state loads ∙ sym (owed_before d cq job.due job.more now_is.state o.before) ∙ begun_owes d cq most job.due job.more (th.polls cq).state) o.moved))
     ]
 
-    on_retire : Retires d programs m' w t cq most h.stands.lists r.verbs now_is th.given p answer said → wanted
+    on_retire : Retires d m' (view programs w) cq most h.stands.lists r.verbs now_is th.given p answer said → wanted
     on_retire o =
         let rest : List Due = store_dues d cq p.state ++ job.more in
         let is : dues_of_thread h.dues t ≡ Retiring (Send o.qp) ∷ rest = owed_first ∙ owed_behind d cq job.due job.more now_is.state o.before ∙ ap (λ (ds : List Due). ds ++ job.more) o.owed in
@@ -131,19 +140,19 @@ module _ (d : Lines) (programs : List (List Call)) (total : Bounds) (m m' : Memo
         (thread_goes_on d programs total m m' w r t cq most h calls calls_are job p th.given o.polls) in
         subst (λ (x : Step Completion PollAnswer). goal p (given_after th.given x) (calls_after x) (speak said)) (sym o.more)
         (as_told p th.given (calls_after More) calls (speak said) (Some (Retire (Send o.qp) o.number)) (speaks.goes_on More tt) (ap speak o.says ∙ speaks.retires (Send o.qp) o.number)
-        (says_goes d programs total m m' w r t cq most h calls calls_are job (Retire (Send o.qp) o.number) p th.given calls (Retiring (Send o.qp)) rest [] is refl refl
-        (retire_goes (length d.qps) total r.verbs h.dues t o.qp o.number o.others rest h.stands.sane (owes_from h.dues t (Retiring (Send o.qp)) rest is) o.first) thread o.moved))
+        (says_goes d programs total m m' w r t cq most h calls calls_are job (Retire (Send o.qp) o.number) p th.given calls (Retiring (Send o.qp)) rest [] (shown_for most th.given p.state o.polls) is refl refl
+        (retire_goes (length d.qps) total r.verbs h.dues t o.qp o.number o.others rest h.stands.bare.sound.sane (owes_from h.dues t (Retiring (Send o.qp)) rest is) o.first) thread o.moved))
 
-    on_end : Acknowledges d programs m' w t cq most h.stands.lists r.verbs now_is th.given p answer said → wanted
+    on_end : Acknowledges d m' (view programs w) cq most h.stands.lists r.verbs now_is th.given p answer said → wanted
     on_end o =
         let index : ℕ = (r.verbs.completions cq).produced - length (r.verbs.completions cq).unpolled in
         let is : dues_of_thread h.dues t ≡ Acking cq ∷ job.more = owed_first ∙ owed_behind d cq job.due job.more now_is.state o.before ∙ ap (λ (ds : List Due). ds ++ job.more) o.owed in
         subst (λ (x : Step Completion PollAnswer). goal p (given_after th.given x) (calls_after x) (speak said)) (sym o.over)
         (as_told p [] (calls_after (Done (Polled o.taken o.word))) job.left (speak said) (Some (Ack cq index)) (speaks.over o.taken o.word o.some) (ap speak o.says ∙ speaks.acks index)
-        (says_goes d programs total m m' w r t cq most h calls calls_are job (Ack cq index) p [] job.left (Acking cq) job.more [] is refl refl
-        (ack_goes (length d.qps) total r.verbs h.dues t cq job.more h.stands.sane (owes_from h.dues t (Acking cq) job.more is)) (thread_ends d programs total m m' w r t cq most h calls calls_are job p o.idle) o.moved))
+        (says_goes d programs total m m' w r t cq most h calls calls_are job (Ack cq index) p [] job.left (Acking cq) job.more [] (shown_none p.state) is refl refl
+        (ack_goes (length d.qps) total r.verbs h.dues t cq job.more h.stands.bare.sound.sane (owes_from h.dues t (Acking cq) job.more is)) (thread_ends d programs total m m' w r t cq most h calls calls_are job p o.idle) o.moved))
 
-    pub finish : Outcome d programs m' w t cq most h.stands.lists r.verbs now_is th.given p answer said → wanted
+    pub finish : Outcome d m' (view programs w) cq most h.stands.lists r.verbs now_is th.given p answer said → wanted
     finish (GoesOn o) = on_load o
     finish (Takes o) = on_tell o
     finish (Nothing o) = on_none o

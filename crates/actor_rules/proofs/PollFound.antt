@@ -6,7 +6,6 @@ use Rattle.bus_core.specs.declared.operation.BusEntry.{BusEntry}
 use Rattle.bus_core.specs.declared.turn.Step.{Step}
 use Rattle.bus_core.specs.declared.turn.Step.TheVariants.{Gave}
 use Rattle.bus_core.specs.Trace.{Memory, after_entry}
-use Rattle.verbs_types.specs.declared.call.Call.{Call}
 use Rattle.verbs_types.specs.declared.completion.Completion.{Completion}
 use Rattle.verbs_types.specs.declared.completion.Queue.TheVariants.{Send}
 use Rattle.verbs_types.specs.declared.declaration.Lines.{Lines}
@@ -33,10 +32,10 @@ use Rattle.provider_poll.specs.Rule.{PollRule}
 use Rattle.provider_poll.specs.Stores.{storing}
 use Rattle.provider_poll.specs.PollStep.{with_end}
 use Rattle.actor_rules.specs.Polling.{place_in, given_with, load_says}
-use Rattle.actor_rules.specs.Actors.{Actors}
 use Rattle.verbs_laws.proofs.Choices.{either}
+use Rattle.actor_rules.proofs.View.{View}
 use Rattle.actor_rules.proofs.Matching.{Match, match_push, match_at, match_length}
-use Rattle.actor_rules.proofs.Objects.{Lists, poster_side, retirer_in}
+use Rattle.actor_rules.proofs.Objects.{Lists, retirer_in}
 use Rattle.actor_rules.proofs.Completions.{IsEnd, AskedFor}
 use Rattle.verbs_laws.proofs.Waiting.{completion_in}
 use Rattle.actor_rules.proofs.PollPlaces.{HasPlace, same_pair, living_by_place}
@@ -54,8 +53,8 @@ use Rattle.actor_rules.proofs.PollServed.{retirers_with_side, side_here, side_th
 pub given_is : (qp index id : ℕ) → completion_of (nop_cqe qp index) id ≡ nop_completion qp id 0
 given_is qp index id = refl
 
-module _ (d : Lines) (programs : List (List Call)) (m : Memory) (w : Actors) (t cq most : ℕ) (l : Lists) (v : Verbs) (c : Consumer) (seen : ℕ) (rs : List Retirer) (es : List End) (cqe : Cqe) (queue : ℕ) (given : List Completion)
-    (now : PollNow d programs m w t cq most l v (record { host = c; seen = seen; retirers = rs; state = states.LookingUp most (record { items = es }) cqe queue }) given) (e : BusEntry)
+module _ (d : Lines) (m : Memory) (around : View) (cq most : ℕ) (l : Lists) (v : Verbs) (c : Consumer) (seen : ℕ) (rs : List Retirer) (es : List End) (cqe : Cqe) (queue : ℕ) (given : List Completion)
+    (now : PollNow d m around cq most l v (record { host = c; seen = seen; retirers = rs; state = states.LookingUp most (record { items = es }) cqe queue }) given) (e : BusEntry)
     (qp : ℕ) (place : HasPlace d cq qp) (is_here : place_in d cq qp ≡ queue) (u : Unpolled) (at_u : slice_get (v.completions cq).unpolled (length es) ≡ Some u) (same : u.completion.qp ≡ qp) where
   abbrev side : PollRule
   side = record { host = c; seen = seen; retirers = rs; state = states.LookingUp most (record { items = es }) cqe queue }
@@ -72,7 +71,7 @@ module _ (d : Lines) (programs : List (List Call)) (m : Memory) (w : Actors) (t 
     knows = record { tail = mine.tail; found = end; asked = None }
 
     abbrev rs' : List Retirer
-    rs' = retirers_with_side d programs m w t cq most l v side given now e qp place knows
+    rs' = retirers_with_side d m around cq most l v side given now e qp place knows
 
     placed : IsPlaced d cq u
     placed = all_at (IsPlaced d cq) us (length es) u now.placed at_u
@@ -89,11 +88,11 @@ module _ (d : Lines) (programs : List (List Call)) (m : Memory) (w : Actors) (t 
             | inl one ↦
                 let pair : a.completion.qp ≡ qp = same_pair d cq a.completion.qp qp its.place place (sym is.queue ∙ one) in
                 let low : a.number < u.number = number_after qp (l.queues (Send qp)).taken (in_hand v qp) (l.queues (Send qp)).retired us k (length es) a u before.1 at_u before.0 (its.queue ∙ ap (λ (i : ℕ). Send i) pair) (placed.queue ∙ ap (λ (i : ℕ). Send i) same)
-                (climbs_now d programs m w t cq most l v side given now refl qp place) in
-                let found : (retirer_in rs' x.queue).found ≡ end = ap (λ (i : ℕ). (retirer_in rs' i).found) one ∙ ap (λ (r : Retirer). r.found) (side_here d programs m w t cq most l v side given now e qp place knows) in
+                (climbs_now d m around cq most l v side given now refl qp place) in
+                let found : (retirer_in rs' x.queue).found ≡ end = ap (λ (i : ℕ). (retirer_in rs' i).found) one ∙ ap (λ (r : Retirer). r.found) (side_here d m around cq most l v side given now e qp place knows) in
                 omega (arith, found, low, end_is)
             | inr apart ↦
-                let found : (retirer_in rs' x.queue).found ≡ (retirer_in rs x.queue).found = ap (λ (r : Retirer). r.found) (side_there d programs m w t cq most l v side given now e qp place knows x.queue apart) in
+                let found : (retirer_in rs' x.queue).found ≡ (retirer_in rs x.queue).found = ap (λ (r : Retirer). r.found) (side_there d m around cq most l v side given now e qp place knows x.queue apart) in
                 omega (arith, found, is.found)
           ];
         }
@@ -115,7 +114,7 @@ module _ (d : Lines) (programs : List (List Call)) (m : Memory) (w : Actors) (t 
 
     last_end : IsEnd d cq rs' x_last u
     last_end =
-        let found : (retirer_in rs' queue).found ≡ end = ap (λ (i : ℕ). (retirer_in rs' i).found) (sym is_here) ∙ ap (λ (r : Retirer). r.found) (side_here d programs m w t cq most l v side given now e qp place knows) in
+        let found : (retirer_in rs' queue).found ≡ end = ap (λ (i : ℕ). (retirer_in rs' i).found) (sym is_here) ∙ ap (λ (r : Retirer). r.found) (side_here d m around cq most l v side given now e qp place knows) in
         record { queue = sym is_here ∙ ap (place_in d cq) (sym same); end = refl; found = omega (arith, found, end_is) }
 
     match_now : Match (IsEnd d cq rs') es' (take (length es') us)
@@ -125,15 +124,15 @@ module _ (d : Lines) (programs : List (List Call)) (m : Memory) (w : Actors) (t 
     given_all = ap (λ (ys : List Completion). ys ++ u.completion ∷ []) now.stands.poll.0.given ∙ sym (map_push completion_in (take (length es) us) u) ∙ ap (map completion_in) (sym taken_next)
 
     none_asked : (i : ℕ) → (retirer_in rs' i).asked ≡ None
-    none_asked = side_cases d programs m w t cq most l v side given now e qp place knows (λ i r. r.asked ≡ None) refl (λ i apart. idle_beside most (record { items = es }) cqe queue i (retirer_in rs i).asked (λ one. apart (one ∙ sym is_here)) (now.stands.asked i))
+    none_asked = side_cases d m around cq most l v side given now e qp place knows (λ i r. r.asked ≡ None) refl (λ i apart. idle_beside most (record { items = es }) cqe queue i (retirer_in rs i).asked (λ one. apart (one ∙ sym is_here)) (now.stands.asked i))
 
     abbrev Comes : PollRule → Step Completion PollAnswer → Option What → Type 0
-    Comes p answer said = Outcome d programs (after_entry m e) w t cq most l v side given p answer said
+    Comes p answer said = Outcome d (after_entry m e) around cq most l v side given p answer said
 
     abbrev side_at : PollState → PollRule
     side_at state = record { host = c; seen = seen; retirers = rs'; state = state }
 
-    module _ (inside : touches d (Sends qp) e.addr ≡ true) (tied : requests.Tied (send_of d qp) (after_entry m e) (poster_side programs w (Send qp)) knows (w.adapter.readers qp) (l.queues (Send qp))) where
+    module _ (inside : touches d (Sends qp) e.addr ≡ true) (tied : requests.Tied (send_of d qp) (after_entry m e) (around.posters (Send qp)) knows (around.readers qp) (l.queues (Send qp))) where
       -- it looks at the next one
       looks_on : length es + 1 < most → Comes (side_at (states.Polling most (record { items = es' }))) (Gave u.completion) None
       looks_on more =
@@ -144,7 +143,7 @@ module _ (d : Lines) (programs : List (List Call)) (m : Memory) (w : Actors) (t 
             polls = refl;
             before = refl;
             loads = refl;
-            moved = queue_moves d programs m w t cq most l v side given now e (side_at (states.Polling most (record { items = es' }))) given' v qp place knows (l.queues (Send qp)) (record {
+            moved = queue_moves d m around cq most l v side given now e (side_at (states.Polling most (record { items = es' }))) given' v qp place knows (l.queues (Send qp)) (record {
               inside = inside;
               tied = tied;
               host = refl;
@@ -154,17 +153,14 @@ module _ (d : Lines) (programs : List (List Call)) (m : Memory) (w : Actors) (t 
               retired = now.retired (Send qp) (living_by_place d cq qp place).0;
               retired_others = λ other apart. refl;
               stands = record {
-                acked = s.acked;
-                produced = s.produced;
-                size = s.size;
-                runs = s.runs;
+                counts = s.counts;
                 from = s.from;
                 from_is = let count : s.from + length es' ≡ s.from + (length es + 1) = ap (λ (n : ℕ). s.from + n) longer in count ∙ s.from_is;
                 low = s.low;
                 unpolled = s.unpolled;
                 reads = s.reads;
                 poll = (record { ends = match_now; given = given_all }, omega (arith, longer, more), s.poll.2);
-                retirers = sides_long d programs m w t cq most l v side given now e qp place knows;
+                retirers = sides_long d m around cq most l v side given now e qp place knows;
                 asked = λ i. subst (AskedFor (states.Polling most (record { items = es' })) i) (sym (none_asked i)) tt;
                 ends = s.ends;
               };
@@ -181,9 +177,9 @@ module _ (d : Lines) (programs : List (List Call)) (m : Memory) (w : Actors) (t 
           let at_first = slice_get-take most us 0 first.0 first.1 in
           let its : IsPlaced d cq first.0 = all_at (IsPlaced d cq) us 0 first.0 now.placed at_first.1 in
           let finds : Finds l qp knows = record { tail = tied.retirer.tail; found = tied.retirer.found; low = now.low qp place } in
-          let ready = first_ready d cq l rs' x first.0 (sides_long d programs m w t cq most l v side given now e qp place knows) its first.2 (none_asked (place_in d cq first.0.completion.qp))
-          (finds_with_side d programs m w t cq most l v side given now e qp place knows finds first.0.completion.qp its.place)
-          (later_now d programs m w t cq most l v side given now refl 0 first.0 at_first.1 its) in
+          let ready = first_ready d cq l rs' x first.0 (sides_long d m around cq most l v side given now e qp place knows) its first.2 (none_asked (place_in d cq first.0.completion.qp))
+          (finds_with_side d m around cq most l v side given now e qp place knows finds first.0.completion.qp its.place)
+          (later_now d m around cq most l v side given now refl 0 first.0 at_first.1 its) in
           let stores : storing (views d cq rs') (length es + 1) None es' ≡ states.Retiring (length es + 1) None (record { items = es' }) =
           ap (λ (ys : List End). storing (views d cq rs') (length es + 1) None ys) es_are ∙ stores_these (views d cq rs') (length es + 1) None x xs ready ∙ ap (λ (ys : List End). states.Retiring (length es + 1) None (record { items = ys })) (sym es_are) in
           subst (λ (state : PollState). Comes (side_at state) (Gave u.completion) (load_says cq most given' state)) (sym stores)
@@ -195,7 +191,7 @@ module _ (d : Lines) (programs : List (List Call)) (m : Memory) (w : Actors) (t 
             before = refl;
             stores = refl;
             owed = stores_owed d cq rs' es' (take most us) (omega (arith, longer)) (taken_placed d cq most v now.placed) match;
-            moved = queue_moves d programs m w t cq most l v side given now e (side_at (states.Retiring (length es + 1) None (record { items = es' }))) given' (told d cq most v now.placed) qp place knows (l.queues (Send qp)) (record {
+            moved = queue_moves d m around cq most l v side given now e (side_at (states.Retiring (length es + 1) None (record { items = es' }))) given' (told d cq most v now.placed) qp place knows (l.queues (Send qp)) (record {
               inside = inside;
               tied = tied;
               host = refl;
@@ -211,7 +207,7 @@ module _ (d : Lines) (programs : List (List Call)) (m : Memory) (w : Actors) (t 
                 match = match;
                 next = let count : s.from + length es' ≡ s.from + (length es + 1) = ap (λ (n : ℕ). s.from + n) longer in count ∙ s.from_is;
                 reads = s.reads;
-                long = sides_long d programs m w t cq most l v side given now e qp place knows;
+                long = sides_long d m around cq most l v side given now e qp place knows;
                 none = none_asked;
               });
             });

@@ -24,6 +24,7 @@ use Rattle.actor_rules.specs.Actors.{Actors, by, after_by, posted_with}
 use Rattle.verbs_laws.proofs.Choices.{differs}
 use Rattle.verbs_laws.proofs.GoesSettle.{polling_goes, draining_goes}
 use Rattle.actor_rules.specs.Ready.{IsOwnCall}
+use Rattle.actor_rules.proofs.View.{view}
 use Rattle.actor_rules.proofs.Holding.{Holds, Goes, IsMapped}
 use Rattle.actor_rules.proofs.PollDues.{Job, poll_job, drain_job}
 use Rattle.actor_rules.proofs.PollNow.{poll_stands}
@@ -43,7 +44,7 @@ module _ (d : Lines) (programs : List (List Call)) (total : Bounds) (map : IsMap
   Wanted calls = goal (after_call d th calls x) (call_says d th calls x)
 
   own_calls : (calls : List Call) → th.calls ≡ calls → AllByRecursion (IsOwnCall d programs (suc t)) calls
-  own_calls calls are = subst (AllByRecursion (IsOwnCall d programs (suc t))) are (h.stands.threads t).calls
+  own_calls calls are = subst (AllByRecursion (IsOwnCall d programs (suc t))) are (h.stands.bare.threads t).calls
 
   -- the outcome of the operation, as its call tells it and ends
   module _ (cq most : ℕ) (calls : List Call) (calls_are : th.calls ≡ calls) (job : Job d programs (suc t) cq most calls) (calls_after : Step Completion PollAnswer → List Call) (speak : Option What → Option What)
@@ -59,7 +60,7 @@ module _ (d : Lines) (programs : List (List Call)) (total : Bounds) (map : IsMap
 
     goes : goal (record { calls = calls_after answer; posting = th.posting; given = given_after th.given answer; posters = th.posters; polls = put_number th.polls cq then_is; ended = th.ended }) (speak (poll_says d th cq most x))
     goes = finish d programs total m (after_entry m x.entry) w r t cq most h calls calls_are job calls_after speak speaks then_is answer (poll_says d th cq most x)
-        (comes d programs m w t cq most h.stands.lists r.verbs now.host now.seen now.retirers th.given x.entry tells now.state x.mark (poll_stands d programs total m w r t cq most map h calls calls_are job) may.on may.goes_on)
+        (comes d m (view programs w) cq most h.stands.lists r.verbs now.host now.seen now.retirers th.given x.entry tells now.state x.mark (poll_stands d programs total m w r t cq most map h calls calls_are job) may.on may.goes_on)
 
   -- The two calls
 

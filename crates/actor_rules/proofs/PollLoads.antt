@@ -7,7 +7,6 @@ use Rattle.bus_core.specs.declared.turn.Step.{Step}
 use Rattle.bus_core.specs.declared.turn.Step.TheVariants.{More, Done}
 use Rattle.bus_core.specs.Operation.{loaded}
 use Rattle.bus_core.specs.Trace.{Memory, after_entry, Tells}
-use Rattle.verbs_types.specs.declared.call.Call.{Call}
 use Rattle.verbs_types.specs.declared.completion.Completion.{Completion}
 use Rattle.verbs_types.specs.declared.declaration.Lines.{Lines}
 use Rattle.verbs_types.specs.declared.entry.What.{What}
@@ -20,7 +19,7 @@ use Rattle.cq_pair.specs.declared.place.CqPlace.{CqPlace}
 use Rattle.cq_pair.specs.Mark.{QueueMark}
 use Rattle.cq_pair.specs.Queue.{PlainQueue, QueueEvent, Published, Overrun, Lost, Took, Empty, Acked, since}
 use Rattle.cq_pair.specs.Queue as plain
-use Rattle.cq_pair.specs.Host.{after_poll, polled, found}
+use Rattle.cq_pair.specs.Host.{after_poll, polled}
 use Rattle.cq_pair.proofs.Tied as completions
 use Rattle.cq_pair.proofs.HostStep as host
 use Rattle.cq_pair.proofs.Says.{poll_inside}
@@ -40,16 +39,16 @@ use Rattle.provider_poll.specs.Stores.{storing}
 use Rattle.provider_poll.specs.PollStep.{after_look, with_completion, with_none, place_of}
 use Rattle.actor_rules.specs.Thread.{poll_place}
 use Rattle.actor_rules.specs.Polling.{place_in, given_with, load_says}
-use Rattle.actor_rules.specs.Actors.{Actors}
-use Rattle.actor_rules.proofs.Matching.{Match, match_at, match_length, match_weaken}
+use Rattle.actor_rules.proofs.View.{View}
+use Rattle.actor_rules.proofs.Matching.{Match, match_at, match_length}
 use Rattle.actor_rules.proofs.Objects.{Lists, retirer_in}
-use Rattle.actor_rules.proofs.Completions.{CompletionsStand, IsCompletion, IsEnd, AskedFor, ReadsNext}
+use Rattle.actor_rules.proofs.Completions.{CompletionsIn, ends_in, IsCompletion, IsEnd, AskedFor, ReadsNext}
 use Rattle.verbs_laws.proofs.Waiting.{completion_in}
-use Rattle.actor_rules.proofs.PollFrame.{Moves, verbs_refl, requests_refl, completions_kept, completion_same}
+use Rattle.actor_rules.proofs.PollFrame.{Moves, verbs_refl}
 use Rattle.actor_rules.proofs.PollLists.{IsPlaced, all_at, slice_get-drop, slice_get-take, stores_owed}
 use Rattle.actor_rules.proofs.PollNow.{PollNow}
 use Rattle.actor_rules.proofs.PollOutcomes.{Outcome, GoesOn, Takes, Nothing}
-use Rattle.actor_rules.proofs.PollMoves.{VerbsKept, host_moves, only}
+use Rattle.actor_rules.proofs.PollMoves.{VerbsKept, host_moves}
 use Rattle.actor_rules.proofs.PollTells.{told, told_keeps, told_retired, taken_placed, told_stands}
 use Rattle.actor_rules.proofs.PollLooks.{IsLook, look_says, look_reads}
 use Rattle.actor_rules.proofs.PollReady.{views, first_ready, stores_these, place_found, idle_polling, finds_now, later_now, take_whole, take_within}
@@ -57,8 +56,8 @@ use Rattle.actor_rules.proofs.PollReady.{views, first_ready, stores_these, place
 pub nothing_kept : (d : Lines) (cq : ℕ) (v : Verbs) → VerbsKept d cq v v
 nothing_kept d cq v = record { same = verbs_refl v; others = λ k apart. refl; ends = λ qp lives away. refl }
 
-module _ (d : Lines) (programs : List (List Call)) (m : Memory) (w : Actors) (t cq most : ℕ) (l : Lists) (v : Verbs) (c : Consumer) (seen : ℕ) (rs : List Retirer) (es : List End) (given : List Completion)
-    (now : PollNow d programs m w t cq most l v (record { host = c; seen = seen; retirers = rs; state = states.Polling most (record { items = es }) }) given) (e : BusEntry) where
+module _ (d : Lines) (m : Memory) (around : View) (cq most : ℕ) (l : Lists) (v : Verbs) (c : Consumer) (seen : ℕ) (rs : List Retirer) (es : List End) (given : List Completion)
+    (now : PollNow d m around cq most l v (record { host = c; seen = seen; retirers = rs; state = states.Polling most (record { items = es }) }) given) (e : BusEntry) where
   abbrev side : PollRule
   side = record { host = c; seen = seen; retirers = rs; state = states.Polling most (record { items = es }) }
 
@@ -72,21 +71,18 @@ module _ (d : Lines) (programs : List (List Call)) (m : Memory) (w : Actors) (t 
   from = now.stands.from
 
   abbrev Comes : PollRule → Step Completion PollAnswer → Option What → Type 0
-  Comes p answer said = Outcome d programs (after_entry m e) w t cq most l v side given p answer said
+  Comes p answer said = Outcome d (after_entry m e) around cq most l v side given p answer said
 
   module _ (c' : Consumer) (seen' : ℕ) (inside : touches d (Completions cq) e.addr ≡ true) (reads : ReadsNext c') where
     abbrev side_at : PollState → PollRule
     side_at state = record { host = c'; seen = seen'; retirers = rs; state = state }
 
     abbrev tied_with : PlainQueue → Type 0
-    tied_with x = completions.Tied (completions_of d cq) (after_entry m e) (w.adapter.queues cq) c' x
-
-    same_words : (x : PlainQueue) (completion : Cqe) (u : Unpolled) → IsCompletion l completion u → IsCompletion (only l x) completion u
-    same_words x completion u is = completion_same d l (only l x) (λ queue. requests_refl (l.queues queue)) completion u is
+    tied_with x = completions.Tied (completions_of d cq) (after_entry m e) (around.devices cq) c' x
 
     -- nothing but the host has moved
-    moves : (state : PollState) (x : PlainQueue) (given' : List Completion) → tied_with x → CompletionsStand d (only l x) (side_at state) given' v cq → Moves d programs w t cq (after_entry m e) l v (side_at state) given' v
-    moves state x given' tied stands = host_moves d programs m w t cq most l v side given now e (side_at state) given' v x (record {
+    moves : (state : PollState) (x : PlainQueue) (given' : List Completion) → tied_with x → CompletionsIn d cq l.queues x (side_at state) given' (v.completions cq) (ends_in v) → Moves d around cq (after_entry m e) l v (side_at state) given' v
+    moves state x given' tied stands = host_moves d m around cq most l v side given now e (side_at state) given' v x (record {
       inside = inside;
       tied = tied;
       retirers = refl;
@@ -106,14 +102,11 @@ module _ (d : Lines) (programs : List (List Call)) (m : Memory) (w : Actors) (t 
           before = refl;
           loads = refl;
           moved = moves (states.Polling most (record { items = es })) q given tied (record {
-            acked = s.acked;
-            produced = s.produced;
-            size = s.size;
-            runs = s.runs;
+            counts = s.counts;
             from = s.from;
             from_is = s.from_is ∙ sym now.host.fits.polled ∙ tied.fits.polled;
             low = s.low;
-            unpolled = match_weaken (IsCompletion l) (IsCompletion (only l q)) (same_words q) (since q from) us s.unpolled;
+            unpolled = s.unpolled;
             reads = reads;
             poll = s.poll;
             retirers = s.retirers;
@@ -146,16 +139,13 @@ module _ (d : Lines) (programs : List (List Call)) (m : Memory) (w : Actors) (t 
             before = refl;
             loads = refl;
             moved = moves state q_now given tied (record {
-              acked = s.acked;
-              produced = s.produced;
-              size = s.size;
-              runs = s.runs;
+              counts = s.counts;
               from = s.from;
               from_is = let more : s.from + (length es + 1) ≡ i + 1 = omega (arith, s.from_is, next) in more ∙ tied.fits.polled;
               low = s.low;
-              unpolled = match_weaken (IsCompletion l) (IsCompletion (only l q_now)) (same_words q_now) (since q from) us s.unpolled;
+              unpolled = s.unpolled;
               reads = reads;
-              poll = (s.poll.0, s.poll.1, s.poll.2, record { unpolled = u; next_is = at_u; spells = same_words q_now completion u is; queue_is = refl });
+              poll = (s.poll.0, s.poll.1, s.poll.2, record { unpolled = u; next_is = at_u; spells = is; queue_is = refl });
               retirers = s.retirers;
               asked = λ place. asks_none (place_in d cq u.completion.qp) place (retirer_in rs place).asked (idle_polling most (record { items = es }) place (retirer_in rs place).asked (s.asked place));
               ends = s.ends;
@@ -194,14 +184,11 @@ module _ (d : Lines) (programs : List (List Call)) (m : Memory) (w : Actors) (t 
             before = refl;
             idle = refl;
             moved = moves states.Idle q [] tied (record {
-              acked = s.acked;
-              produced = s.produced;
-              size = s.size;
-              runs = s.runs;
+              counts = s.counts;
               from = s.from;
               from_is = let same : s.from + 0 ≡ s.from + length es = omega (arith, empty) in same ∙ s.from_is ∙ sym now.host.fits.polled ∙ tied.fits.polled;
               low = s.low;
-              unpolled = match_weaken (IsCompletion l) (IsCompletion (only l q)) (same_words q) (since q from) us s.unpolled;
+              unpolled = s.unpolled;
               reads = reads;
               poll = tt;
               retirers = s.retirers;
@@ -221,8 +208,8 @@ module _ (d : Lines) (programs : List (List Call)) (m : Memory) (w : Actors) (t 
           let at_first = slice_get-take most us 0 first.0 first.1 in
           let placed : IsPlaced d cq first.0 = all_at (IsPlaced d cq) us 0 first.0 now.placed at_first.1 in
           let none_asked = λ (place : ℕ). idle_polling most (record { items = es }) place (retirer_in rs place).asked (s.asked place) in
-          let ready = first_ready d cq l rs x first.0 s.retirers placed first.2 (none_asked (place_in d cq first.0.completion.qp)) (finds_now d programs m w t cq most l v side given now first.0.completion.qp placed.place)
-          (later_now d programs m w t cq most l v side given now refl 0 first.0 at_first.1 placed) in
+          let ready = first_ready d cq l rs x first.0 s.retirers placed first.2 (none_asked (place_in d cq first.0.completion.qp)) (finds_now d m around cq most l v side given now first.0.completion.qp placed.place)
+          (later_now d m around cq most l v side given now refl 0 first.0 at_first.1 placed) in
           let stores : storing (views d cq rs) (length es) (Some word) es ≡ states.Retiring (length es) (Some word) (record { items = es }) =
           ap (λ (ys : List End). storing (views d cq rs) (length es) (Some word) ys) es_are ∙ stores_these (views d cq rs) (length es) (Some word) x xs ready ∙ ap (λ (ys : List End). states.Retiring (length es) (Some word) (record { items = ys })) (sym es_are) in
           let some : 0 < length es = omega (arith, count) in
@@ -235,23 +222,22 @@ module _ (d : Lines) (programs : List (List Call)) (m : Memory) (w : Actors) (t 
             before = refl;
             stores = refl;
             owed = stores_owed d cq rs es (take most us) some (taken_placed d cq most v now.placed) match;
-            moved = host_moves d programs m w t cq most l v side given now e (side_at (states.Retiring (length es) (Some word) (record { items = es }))) given (told d cq most v now.placed) q (record {
+            moved = host_moves d m around cq most l v side given now e (side_at (states.Retiring (length es) (Some word) (record { items = es }))) given (told d cq most v now.placed) q (record {
               inside = inside;
               tied = tied;
               retirers = refl;
               verbs = told_keeps d cq most v now.placed;
               retired = told_retired d cq most v now.placed;
-              stands = completions_kept d l (only l q) (λ queue. requests_refl (l.queues queue)) (side_at (states.Retiring (length es) (Some word) (record { items = es }))) given (told d cq most v now.placed) (told d cq most v now.placed) cq refl refl (λ qp lives home. refl)
-                  (told_stands d cq most v now.placed l side given s c' seen' (length es) (Some word) rs es given (record {
-                    fresh = refl;
-                    some = some;
-                    taken_some = some;
-                    match = match;
-                    next = s.from_is ∙ sym now.host.fits.polled ∙ tied.fits.polled;
-                    reads = reads;
-                    long = s.retirers;
-                    none = none_asked;
-                  }));
+              stands = told_stands d cq most v now.placed l side given s c' seen' (length es) (Some word) rs es given (record {
+                fresh = refl;
+                some = some;
+                taken_some = some;
+                match = match;
+                next = s.from_is ∙ sym now.host.fits.polled ∙ tied.fits.polled;
+                reads = reads;
+                long = s.retirers;
+                none = none_asked;
+              });
             });
           }))
 
@@ -277,7 +263,7 @@ module _ (d : Lines) (programs : List (List Call)) (m : Memory) (w : Actors) (t 
     abbrev turn_after : Option QueueEvent → PollStep
     turn_after said = after_look cq (views d cq rs) most (record { items = es }) seen' (host_step e said)
 
-    pub by_said : (said : Option QueueEvent) → IsLook c said → completions.Goes (completions_of d cq) (after_entry m e) (w.adapter.queues cq) c' q said
+    pub by_said : (said : Option QueueEvent) → IsLook c said → completions.Goes (completions_of d cq) (after_entry m e) (around.devices cq) c' q said
         → Comes (side_at (turn_after said).state) (turn_after said).answer (load_says cq most (given_with given (turn_after said).answer) (turn_after said).state)
     by_said None says g = reads_more g
     by_said (Some (Took i completion)) says g = on_took i completion says g.0 g.1
@@ -292,5 +278,5 @@ module _ (d : Lines) (programs : List (List Call)) (m : Memory) (w : Actors) (t 
       → Comes (after_poll_side (poll_place d cq) side (OnHost mark) e) (poll_side_step (poll_place d cq) side (OnHost mark) e).answer (load_says cq most (given_with given (poll_side_step (poll_place d cq) side (OnHost mark) e).answer) (poll_side_step (poll_place d cq) side (OnHost mark) e).state)
   loads mark tells may =
       let place : CqPlace = completions_of d cq in
-      by_said (after_poll place c mark e) (seen_by (poll_place d cq) side mark e) (poll_inside place m (w.adapter.queues cq) c q mark e now.host may.polls) (look_reads place e c mark may.next now.stands.reads)
-      (polled place c mark e) (look_says place e c mark may.next now.stands.reads) (host.host_step place m (w.adapter.queues cq) c q mark e now.fine now.host tells may.polls)
+      by_said (after_poll place c mark e) (seen_by (poll_place d cq) side mark e) (poll_inside place m (around.devices cq) c q mark e now.host may.polls) (look_reads place e c mark may.next now.stands.reads)
+      (polled place c mark e) (look_says place e c mark may.next now.stands.reads) (host.host_step place m (around.devices cq) c q mark e now.fine now.host tells may.polls)

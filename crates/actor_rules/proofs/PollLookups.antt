@@ -4,7 +4,6 @@ use Rattle.std.proofs.lemmas.Bool.{true≢false}
 use Rattle.std.proofs.lemmas.Option.{get_or_from_slice_get}
 use Rattle.bus_core.specs.declared.operation.BusEntry.{BusEntry}
 use Rattle.bus_core.specs.Trace.{Memory, after_entry, Tells}
-use Rattle.verbs_types.specs.declared.call.Call.{Call}
 use Rattle.verbs_types.specs.declared.completion.Completion.{Completion}
 use Rattle.verbs_types.specs.declared.completion.Queue.TheVariants.{Send}
 use Rattle.verbs_types.specs.declared.declaration.Lines.{Lines}
@@ -31,8 +30,8 @@ use Rattle.provider_poll.specs.SendQueue.{SendView}
 use Rattle.provider_poll.specs.PollStep.{with_end, after_lookup}
 use Rattle.actor_rules.specs.Thread.{poll_place}
 use Rattle.actor_rules.specs.Polling.{place_in, given_with, load_says}
-use Rattle.actor_rules.specs.Actors.{Actors}
-use Rattle.actor_rules.proofs.Objects.{Lists, poster_side, retirer_in}
+use Rattle.actor_rules.proofs.View.{View}
+use Rattle.actor_rules.proofs.Objects.{Lists, retirer_in}
 use Rattle.actor_rules.proofs.Completions.{IsLookedUp, AskedFor}
 use Rattle.actor_rules.proofs.PollPlaces.{HasPlace, same_pair}
 use Rattle.actor_rules.proofs.PollLists.{IsPlaced, all_at}
@@ -44,8 +43,8 @@ use Rattle.actor_rules.proofs.PollServed.{served_is, side_then, retirers_then, t
 use Rattle.actor_rules.proofs.PollNamed.{named}
 use Rattle.actor_rules.proofs.PollFound.{given_is, on_found}
 
-module _ (d : Lines) (programs : List (List Call)) (m : Memory) (w : Actors) (t cq most : ℕ) (l : Lists) (v : Verbs) (c : Consumer) (seen : ℕ) (rs : List Retirer) (es : List End) (cqe : Cqe) (queue : ℕ) (given : List Completion)
-    (now : PollNow d programs m w t cq most l v (record { host = c; seen = seen; retirers = rs; state = states.LookingUp most (record { items = es }) cqe queue }) given) (e : BusEntry)
+module _ (d : Lines) (m : Memory) (around : View) (cq most : ℕ) (l : Lists) (v : Verbs) (c : Consumer) (seen : ℕ) (rs : List Retirer) (es : List End) (cqe : Cqe) (queue : ℕ) (given : List Completion)
+    (now : PollNow d m around cq most l v (record { host = c; seen = seen; retirers = rs; state = states.LookingUp most (record { items = es }) cqe queue }) given) (e : BusEntry)
     (qp : ℕ) (place : HasPlace d cq qp) (is_here : place_in d cq qp ≡ queue) (tells : Tells m e) where
   abbrev side : PollRule
   side = record { host = c; seen = seen; retirers = rs; state = states.LookingUp most (record { items = es }) cqe queue }
@@ -73,16 +72,16 @@ module _ (d : Lines) (programs : List (List Call)) (m : Memory) (w : Actors) (t 
   same = same_pair d cq u.completion.qp qp placed.place place (sym looked.queue_is ∙ sym is_here)
 
   later : (l.queues (Send u.completion.qp)).retired < u.number
-  later = later_now d programs m w t cq most l v side given now refl (length es) u looked.next_is placed
+  later = later_now d m around cq most l v side given now refl (length es) u looked.next_is placed
 
   abbrev Comes : PollRule → PollStep → Type 0
-  Comes p turn = Outcome d programs (after_entry m e) w t cq most l v side given p turn.answer (load_says cq most (given_with given turn.answer) turn.state)
+  Comes p turn = Outcome d (after_entry m e) around cq most l v side given p turn.answer (load_says cq most (given_with given turn.answer) turn.state)
 
   abbrev rs_then : WqMark → List Retirer
-  rs_then mark = retirers_then d programs m w t cq most l v side given now e qp place mark
+  rs_then mark = retirers_then d m around cq most l v side given now e qp place mark
 
   abbrev turn_by : WqMark → PollStep
-  turn_by mark = turn_then d programs m w t cq most l v side given now e qp place mark
+  turn_by mark = turn_then d m around cq most l v side given now e qp place mark
 
   abbrev ComesBy : WqMark → Type 0
   ComesBy mark = Comes (record { host = c; seen = seen; retirers = rs_then mark; state = (turn_by mark).state }) (turn_by mark)
@@ -92,16 +91,16 @@ module _ (d : Lines) (programs : List (List Call)) (m : Memory) (w : Actors) (t 
     asks : requests.Asks (send_of d qp) q (count_says_for mine.asked e)
     asks = subst (λ (o : Option Asked). requests.Asks (send_of d qp) q (count_says_for o e)) (sym is_asked) (λ never. absurd (true≢false never))
 
-    goes : requests.Goes (send_of d qp) (after_entry m e) (poster_side programs w (Send qp)) (side_then d programs m w t cq most l v side given now e qp place Count) (w.adapter.readers qp) q (count_says_for (Some a) e)
-    goes = subst (λ (o : Option Asked). requests.Goes (send_of d qp) (after_entry m e) (poster_side programs w (Send qp)) (side_then d programs m w t cq most l v side given now e qp place Count) (w.adapter.readers qp) q (count_says_for o e)) is_asked
-        (serve_goes d programs m w t cq most l v side given now e qp place Count may tells asks)
+    goes : requests.Goes (send_of d qp) (after_entry m e) (around.posters (Send qp)) (side_then d m around cq most l v side given now e qp place Count) (around.readers qp) q (count_says_for (Some a) e)
+    goes = subst (λ (o : Option Asked). requests.Goes (send_of d qp) (after_entry m e) (around.posters (Send qp)) (side_then d m around cq most l v side given now e qp place Count) (around.readers qp) q (count_says_for o e)) is_asked
+        (serve_goes d m around cq most l v side given now e qp place Count may tells asks)
 
     asked_counter : a.counter ≡ cqe.counter
     asked_counter = (subst (λ (o : Option Asked). AskedFor (states.LookingUp most (record { items = es }) cqe queue) (place_in d cq qp) o) is_asked (now.stands.asked (place_in d cq qp))).1
 
     number_is : goes.0.named.number ≡ u.number - 1
-    number_is = one_counter (send_of d qp) q (now.sends qp place).shape.order (fine_now d programs m w t cq most l v side given now e qp place) a.counter goes.0.named.number (u.number - 1) goes.0.named.counted
-        (request_taken d programs m w t cq most l v side given now e qp place cqe u a.counter same looked.spells later asked_counter)
+    number_is = one_counter (send_of d qp) q (now.sends qp place).shape.order (fine_now d m around cq most l v side given now e qp place) a.counter goes.0.named.number (u.number - 1) goes.0.named.counted
+        (request_taken d m around cq most l v side given now e qp place cqe u a.counter same looked.spells later asked_counter)
 
     end_is : end_after e ≡ u.number
     end_is = omega (arith, goes.0.end_is, number_is, looked.spells.some)
@@ -130,17 +129,17 @@ module _ (d : Lines) (programs : List (List Call)) (m : Memory) (w : Actors) (t 
 
     found : ComesBy Count
     found = subst (λ (turn : PollStep). Comes (record { host = c; seen = seen; retirers = rs_then Count; state = turn.state }) turn) (sym turn_is)
-        (on_found d programs m w t cq most l v c seen rs es cqe queue given now e qp place is_here u looked.next_is same (end_after e) end_is (serve_there d programs m w t cq most l v side given now e qp place Count may) goes.1)
+        (on_found d m around cq most l v c seen rs es cqe queue given now e qp place is_here u looked.next_is same (end_after e) end_is (serve_there d m around cq most l v side given now e qp place Count may) goes.1)
 
   by_asked : (asked : Option Asked) → mine.asked ≡ asked → (mark : WqMark) → mark ≡ lookup_mark cqe.counter (found_before mine) asked → MayServe (send_of d qp) mine mark e → ComesBy mark
   by_asked None is mark mark_is may =
-      subst ComesBy (sym mark_is) (named d programs m w t cq most l v c seen rs es cqe queue given now e qp place is_here u same looked.spells later (subst (λ (x : WqMark). MayServe (send_of d qp) mine x e) mark_is may) tells)
+      subst ComesBy (sym mark_is) (named d m around cq most l v c seen rs es cqe queue given now e qp place is_here u same looked.spells later (subst (λ (x : WqMark). MayServe (send_of d qp) mine x e) mark_is may) tells)
   by_asked (Some a) is mark mark_is may = subst ComesBy (sym mark_is) (found a is (subst (λ (x : WqMark). MayServe (send_of d qp) mine x e) mark_is may))
 
   pub looks_up : (mark : WqMark) → MayLookUp (poll_place d cq) side cqe queue (place_in d cq qp) mark e
       → Comes (after_poll_side (poll_place d cq) side (OnQueue (place_in d cq qp) mark) e) (poll_side_step (poll_place d cq) side (OnQueue (place_in d cq qp) mark) e)
   looks_up mark may =
-      let view_is = served_is d programs m w t cq most l v side given now e qp place queue mark may.serves is_here in
+      let view_is = served_is d m around cq most l v side given now e qp place queue mark may.serves is_here in
       let serves : MayServe (send_of d qp) mine mark e = subst (λ (x : SendView). MayServe x.place x.side mark e) view_is may.serves.serves in
-      turns_by d programs m w t cq most l v side given now e qp place mark Comes
+      turns_by d m around cq most l v side given now e qp place mark Comes
       (by_asked mine.asked refl mark (may.mark_is ∙ ap (λ (x : SendView). lookup_in cqe.counter x.side) view_is) serves)

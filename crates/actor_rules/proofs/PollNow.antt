@@ -14,7 +14,7 @@ use Rattle.verbs_types.specs.declared.state.Unpolled.{Unpolled}
 use Rattle.verbs_rules.specs.State.{Verbs}
 use Rattle.verbs_rules.specs.Running.{Running}
 use Rattle.verbs_rules.specs.Answered.{Due}
-use Rattle.owner_ring.specs.Place.{size, IsPlace}
+use Rattle.owner_ring.specs.Place.{IsPlace}
 use Rattle.cq_pair.specs.Place.{ring_of}
 use Rattle.cq_pair.proofs.Tied as completions
 use Rattle.counted_ring.specs.Retirer.{Asked, Retirer}
@@ -24,14 +24,13 @@ use Rattle.object_places.specs.Places.{send_of, completions_of}
 use Rattle.provider_poll.specs.declared.state.PollState.{PollState}
 use Rattle.provider_poll.specs.declared.state.PollState.TheVariants as states
 use Rattle.provider_poll.specs.Rule.{PollRule}
-use Rattle.device_engine.specs.State.{send_cq}
-use Rattle.actor_rules.specs.Owners.{poller_of}
+use Rattle.actor_rules.proofs.View.{View, view, poll_given}
+use Rattle.actor_rules.proofs.PollDues.{shown_for}
 use Rattle.actor_rules.specs.Polling.{place_in, begun, poll_now}
 use Rattle.actor_rules.specs.Actors.{Actors}
 use Rattle.verbs_rules.specs.Sane.{Bounds, Climbs, IsHomed, into, numbers_in, completed_by}
-use Rattle.actor_rules.proofs.Objects.{Lists, poll_side, poster_side, retirer_in, retirer_side}
+use Rattle.actor_rules.proofs.Objects.{AllTiedIn, Lists, poll_side, poster_side, retirer_in, retirer_side}
 use Rattle.actor_rules.proofs.Queues.{QueueLives, QueueStands}
-use Rattle.actor_rules.proofs.Frame.{AllTied}
 use Rattle.actor_rules.proofs.Completions.{CompletionsStand, AskedFor, pending, held, ends_on}
 use Rattle.actor_rules.proofs.Threads.{IsPollFor}
 use Rattle.actor_rules.proofs.Holding.{Holds, Stands, IsMapped}
@@ -65,10 +64,7 @@ module _ (d : Lines) (cq : ℕ) (l : Lists) (given : List Completion) (v : Verbs
 
   pub begun_stands : (p : PollRule) (state : PollState) → p.state ≡ state → IsPollFor most given state → 0 < most → most ≤ 16 → CompletionsStand d l p given v cq → CompletionsStand d l (record { host = p.host; seen = p.seen; retirers = p.retirers; state = begun most state }) given v cq
   begun_stands p states.Idle is nothing some few h = record {
-    acked = h.acked;
-    produced = h.produced;
-    size = h.size;
-    runs = h.runs;
+    counts = h.counts;
     from = h.from;
     from_is = ap (λ (s : PollState). h.from + held s) (sym is) ∙ h.from_is;
     low = h.low;
@@ -103,19 +99,18 @@ abbrev pub in_hand : Verbs → ℕ → List ℕ
 in_hand v qp = numbers_in qp (map completed_by v.owed)
 
 -- a poll of this thread, its queues and the state
-pub record PollNow (d : Lines) (programs : List (List Call)) (m : Memory) (w : Actors) (t cq most : ℕ) (l : Lists) (v : Verbs) (p : PollRule) (given : List Completion) : Type 0 where
+pub record PollNow (d : Lines) (m : Memory) (around : View) (cq most : ℕ) (l : Lists) (v : Verbs) (p : PollRule) (given : List Completion) : Type 0 where
   pub mapped : IsMapped d
-  pub objects : AllTied d programs m w l
+  pub objects : AllTiedIn d m around l
   pub retired : (queue : Queue) → QueueLives d queue → (v.queues queue).retired ≡ (l.queues queue).retired
-  pub owner : poller_of programs cq ≡ suc t
   pub lives : Lives d (Completions cq)
   pub fine : IsPlace (ring_of (completions_of d cq))
-  pub host_same : p.host ≡ (poll_side programs w cq).host
-  pub retirers_same : p.retirers ≡ (poll_side programs w cq).retirers
+  pub host_same : p.host ≡ (around.polls cq).host
+  pub retirers_same : p.retirers ≡ (around.polls cq).retirers
   pub stands : CompletionsStand d l p given v cq
   pub polls : IsPollFor most given p.state
-  pub host : completions.Tied (completions_of d cq) m (w.adapter.queues cq) p.host (l.completions cq)
-  pub sends : (qp : ℕ) → HasPlace d cq qp → requests.Tied (send_of d qp) m (poster_side programs w (Send qp)) (retirer_in p.retirers (place_in d cq qp)) (w.adapter.readers qp) (l.queues (Send qp))
+  pub host : completions.Tied (completions_of d cq) m (around.devices cq) p.host (l.completions cq)
+  pub sends : (qp : ℕ) → HasPlace d cq qp → requests.Tied (send_of d qp) m (around.posters (Send qp)) (retirer_in p.retirers (place_in d cq qp)) (around.readers qp) (l.queues (Send qp))
   pub low : (qp : ℕ) → HasPlace d cq qp → (l.queues (Send qp)).taken < 2 ^ 62
   pub placed : AllByRecursion (IsPlaced d cq) (v.completions cq).unpolled
   pub under_way : (qp : ℕ) → HasPlace d cq qp → Climbs (l.queues (Send qp)).retired ((v.queues (Send qp)).ends ++ (numbers_in qp (v.completions cq).unpolled ++ in_hand v qp)) (l.queues (Send qp)).taken
@@ -130,31 +125,32 @@ module _ (d : Lines) (programs : List (List Call)) (total : Bounds) (m : Memory)
 
   stands_now : CompletionsStand d s.lists ((w.threads (suc t)).polls cq) (w.threads (suc t)).given r.verbs cq
   stands_now =
-      subst (λ (xs : List Completion). CompletionsStand d s.lists ((w.threads (suc t)).polls cq) xs r.verbs cq) (ap (λ (x : ℕ). (w.threads x).given) job.own.owner)
-      (subst (λ (p : PollRule). CompletionsStand d s.lists p (w.threads (poller_of programs cq)).given r.verbs cq) side_is (s.completions cq job.own.lives))
+      let polls = polls_at d programs total m m w r t cq most h calls calls_are job in
+      subst (λ (xs : List Completion). CompletionsStand d s.lists ((w.threads (suc t)).polls cq) xs r.verbs cq) (shown_for most (w.threads (suc t)).given ((w.threads (suc t)).polls cq).state polls.poll)
+      (subst (λ (x : ℕ). CompletionsStand d s.lists ((w.threads x).polls cq) (poll_given cq (w.threads x)) r.verbs cq) job.own.owner (s.bare.state.completions cq job.own.lives))
 
   home_is : (qp : ℕ) → HasPlace d cq qp → (r.verbs.pairs qp).send_cq ≡ cq
-  home_is qp place = ap (λ (x : QueuePair). x.send_cq) (s.declared.pairs qp) ∙ (living_by_place d cq qp place).1
+  home_is qp place = ap (λ (x : QueuePair). x.send_cq) (s.bare.sound.declared.pairs qp) ∙ (living_by_place d cq qp place).1
 
   queue_now : (qp : ℕ) → HasPlace d cq qp → QueueStands d programs w r.verbs (s.lists.queues (Send qp)) (Send qp)
-  queue_now qp place = s.queues (Send qp) (living_by_place d cq qp place).0
+  queue_now qp place = s.bare.state.queues (Send qp) (living_by_place d cq qp place).0
 
   few : (qp : ℕ) → HasPlace d cq qp → (s.lists.queues (Send qp)).taken < 2 ^ 62
   few qp place =
-      let q = s.sane.queues qp in
-      let lives : r.verbs.pair_lives qp ≡ true = s.declared.pair_lives qp ∙ (living_by_place d cq qp place).0 in
-      let pair = s.sane.lives qp lives in
+      let q = s.bare.sound.sane.queues qp in
+      let lives : r.verbs.pair_lives qp ≡ true = s.bare.sound.declared.pair_lives qp ∙ (living_by_place d cq qp place).0 in
+      let pair = s.bare.sound.sane.lives qp lives in
       let back : FIRST_QP + (qp - FIRST_QP) ≡ qp = omega (arith, pair.least) in
       let part : total.posts (FIRST_QP + (qp - FIRST_QP)) ≤ into r.verbs.pairs total.posts cq FIRST_QP (length d.qps) = one_part r.verbs.pairs total.posts cq FIRST_QP (length d.qps) (qp - FIRST_QP) pair.most (ap (λ i. (r.verbs.pairs i).send_cq) back ∙ home_is qp place) in
       let same : total.posts (FIRST_QP + (qp - FIRST_QP)) ≡ total.posts qp = ap total.posts back in
-      let fits = (s.sane.completions cq).fits (s.declared.completions_live cq ∙ job.own.lives) in
+      let fits = (s.bare.sound.sane.completions cq).fits (s.bare.sound.declared.completions_live cq ∙ job.own.lives) in
       let fine : IsPlace (ring_of (completions_of d cq)) = (map.placed d (Completions cq) map.declared job.own.lives).fine in
-      omega (arith, (queue_now qp place).taken, q.taken, q.posts, part, same, fits, stands_now.size, fine.fits)
+      omega (arith, (queue_now qp place).taken, q.taken, q.posts, part, same, fits, stands_now.counts.size, fine.fits)
 
   placed_one : (u : Unpolled) → IsHomed r.verbs.pair_lives r.verbs.pairs cq u → IsPlaced d cq u
   placed_one u homed = record {
     queue = homed.queue;
-    place = place_by_living d cq u.completion.qp (sym (s.declared.pair_lives u.completion.qp) ∙ homed.living) (sym (ap (λ (x : QueuePair). x.send_cq) (s.declared.pairs u.completion.qp)) ∙ homed.home);
+    place = place_by_living d cq u.completion.qp (sym (s.bare.sound.declared.pair_lives u.completion.qp) ∙ homed.living) (sym (ap (λ (x : QueuePair). x.send_cq) (s.bare.sound.declared.pairs u.completion.qp)) ∙ homed.home);
   }
 
   waits : (qp : ℕ) → HasPlace d cq qp → Climbs (s.lists.queues (Send qp)).retired ((r.verbs.queues (Send qp)).ends ++ (numbers_in qp (r.verbs.completions cq).unpolled ++ in_hand r.verbs qp)) (s.lists.queues (Send qp)).taken
@@ -163,30 +159,29 @@ module _ (d : Lines) (programs : List (List Call)) (total : Bounds) (m : Memory)
       let ns : List ℕ = (r.verbs.queues (Send qp)).ends ++ (numbers_in qp (r.verbs.completions cq).unpolled ++ in_hand r.verbs qp) in
       subst (λ (k : ℕ). Climbs k ns (s.lists.queues (Send qp)).taken) q.retired
       (subst (λ (k : ℕ). Climbs (r.verbs.queues (Send qp)).retired ns k) q.taken
-      (subst (λ (k : ℕ). Climbs (r.verbs.queues (Send qp)).retired ((r.verbs.queues (Send qp)).ends ++ (numbers_in qp (r.verbs.completions k).unpolled ++ in_hand r.verbs qp)) (r.verbs.queues (Send qp)).taken) (home_is qp place) (s.sane.queues qp).under_way))
+      (subst (λ (k : ℕ). Climbs (r.verbs.queues (Send qp)).retired ((r.verbs.queues (Send qp)).ends ++ (numbers_in qp (r.verbs.completions k).unpolled ++ in_hand r.verbs qp)) (r.verbs.queues (Send qp)).taken) (home_is qp place) (s.bare.sound.sane.queues qp).under_way))
 
   sends_now : (qp : ℕ) → HasPlace d cq qp → requests.Tied (send_of d qp) m (poster_side programs w (Send qp)) (retirer_in ((w.threads (suc t)).polls cq).retirers (place_in d cq qp)) (w.adapter.readers qp) (s.lists.queues (Send qp))
   sends_now qp place =
       let lives = living_by_place d cq qp place in
       let same : retirer_side d programs w qp ≡ retirer_in ((w.threads (suc t)).polls cq).retirers (place_in d cq qp) = ap (λ (k : ℕ). retirer_in (poll_side programs w k).retirers (place_in d k qp)) lives.1 ∙ ap (λ (p : PollRule). retirer_in p.retirers (place_in d cq qp)) side_is in
-      subst (λ (x : Retirer). requests.Tied (send_of d qp) m (poster_side programs w (Send qp)) x (w.adapter.readers qp) (s.lists.queues (Send qp))) same (s.objects (Sends qp) lives.0)
+      subst (λ (x : Retirer). requests.Tied (send_of d qp) m (poster_side programs w (Send qp)) x (w.adapter.readers qp) (s.lists.queues (Send qp))) same (s.bare.objects (Sends qp) lives.0)
 
-  pub poll_stands : PollNow d programs m w t cq most s.lists r.verbs (poll_now (w.threads (suc t)) cq most) (w.threads (suc t)).given
+  pub poll_stands : PollNow d m (view programs w) cq most s.lists r.verbs (poll_now (w.threads (suc t)) cq most) (w.threads (suc t)).given
   poll_stands =
       let polls = polls_at d programs total m m w r t cq most h calls calls_are job in record {
         mapped = map;
-        objects = s.objects;
-        retired = λ queue lives. (s.queues queue lives).retired;
-        owner = job.own.owner;
+        objects = s.bare.objects;
+        retired = λ queue lives. (s.bare.state.queues queue lives).retired;
         lives = job.own.lives;
         fine = (map.placed d (Completions cq) map.declared job.own.lives).fine;
         host_same = ap (λ (p : PollRule). p.host) (sym side_is);
         retirers_same = ap (λ (p : PollRule). p.retirers) (sym side_is);
         stands = begun_stands d cq s.lists (w.threads (suc t)).given r.verbs most ((w.threads (suc t)).polls cq) ((w.threads (suc t)).polls cq).state refl polls.poll job.own.some job.own.few stands_now;
         polls = begun_for most (w.threads (suc t)).given ((w.threads (suc t)).polls cq).state polls.poll;
-        host = subst (λ (p : PollRule). completions.Tied (completions_of d cq) m (w.adapter.queues cq) p.host (s.lists.completions cq)) side_is (s.objects (Completions cq) job.own.lives);
+        host = subst (λ (p : PollRule). completions.Tied (completions_of d cq) m (w.adapter.queues cq) p.host (s.lists.completions cq)) side_is (s.bare.objects (Completions cq) job.own.lives);
         sends = sends_now;
         low = few;
-        placed = all_by (IsHomed r.verbs.pair_lives r.verbs.pairs cq) (IsPlaced d cq) placed_one (r.verbs.completions cq).unpolled (s.sane.completions cq).homed;
+        placed = all_by (IsHomed r.verbs.pair_lives r.verbs.pairs cq) (IsPlaced d cq) placed_one (r.verbs.completions cq).unpolled (s.bare.sound.sane.completions cq).homed;
         under_way = waits;
       }

@@ -19,17 +19,16 @@ use Rattle.provider_poll.specs.declared.answer.PollAnswer.TheVariants.{Polled}
 use Rattle.provider_poll.specs.declared.state.PollState.TheVariants as states
 use Rattle.provider_poll.specs.Rule.{PollRule}
 use Rattle.actor_rules.specs.Polling.{given_after}
-use Rattle.actor_rules.specs.Actors.{Actors}
 use Rattle.actor_rules.specs.Dues.{is_storing, store_dues}
 use Rattle.verbs_rules.specs.Sane.{Bounds, Sane}
 use Rattle.verbs_rules.specs.Proper.{Owes}
 use Rattle.verbs_rules.specs.Sane as sane
 use Rattle.verbs_laws.proofs.GoesSettle.{ends_owed}
 use Rattle.verbs_laws.proofs.Waiting.{completion_in}
+use Rattle.actor_rules.proofs.View.{View}
 use Rattle.actor_rules.proofs.Objects.{Lists}
 use Rattle.actor_rules.proofs.Threads.{IsPollFor}
-use Rattle.actor_rules.proofs.Holding.{Goes}
-use Rattle.actor_rules.proofs.PollFrame.{goes_on, Moves}
+use Rattle.actor_rules.proofs.PollFrame.{Moves}
 use Rattle.actor_rules.proofs.PollDues.{Job}
 
 -- the poll goes on
@@ -37,9 +36,9 @@ abbrev pub IsOngoing : Step Completion PollAnswer → Type 0
 IsOngoing (Done answer) = ⊥
 IsOngoing _ = Unit {0}
 
-module _ (d : Lines) (programs : List (List Call)) (m : Memory) (w : Actors) (t cq most : ℕ) (l : Lists) (v : Verbs) (p : PollRule) (given : List Completion) where
+module _ (d : Lines) (m : Memory) (around : View) (cq most : ℕ) (l : Lists) (v : Verbs) (p : PollRule) (given : List Completion) where
   abbrev pub moves : PollRule → List Completion → Verbs → Type 0
-  moves now given' v' = Moves d programs w t cq m l v now given' v'
+  moves now given' v' = Moves d around cq m l v now given' v'
 
   -- the completions that the poll's entry tells of
   abbrev pub polled : List Unpolled

@@ -1,6 +1,5 @@
 -- That the first of the ends that a poll has found may be stored, and what a poll knows of its queues.
 use Rattle.std.proofs.Common.{◌≡◌, ◌≢◌, ℕ, zero, suc, refl, sym, ap, ◌∙◌, subst, arith, ◌<◌, ◌≤◌, ◌^◌, true, List, [], ◌∷◌, ◌++◌, length, take, slice_get, Option, None, Some}
-use Rattle.verbs_types.specs.declared.call.Call.{Call}
 use Rattle.bus_core.specs.Trace.{Memory}
 use Rattle.verbs_types.specs.declared.completion.Completion.{Completion}
 use Rattle.verbs_types.specs.declared.completion.Queue.TheVariants.{Send}
@@ -17,8 +16,8 @@ use Rattle.provider_poll.specs.Stores.{may_store, storing}
 use Rattle.provider_poll.specs.PollStep.{place_of}
 use Rattle.actor_rules.specs.Thread.{completing}
 use Rattle.actor_rules.specs.Polling.{place_in}
-use Rattle.actor_rules.specs.Actors.{Actors}
 use Rattle.verbs_rules.specs.Sane.{Climbs, numbers_in}
+use Rattle.actor_rules.proofs.View.{View}
 use Rattle.actor_rules.proofs.Objects.{Lists, retirer_in}
 use Rattle.actor_rules.proofs.Completions.{IsCompletion, IsEnd, AskedFor, pending, ends_on}
 use Rattle.actor_rules.proofs.PollPlaces.{HasPlace, living_by_place}
@@ -70,7 +69,7 @@ pub idle_beside : (most : ℕ) (ends : _) (c : Cqe) (queue place : ℕ) (asked :
 idle_beside most ends c queue place None apart h = refl
 idle_beside most ends c queue place (Some a) apart h = absurd (apart (sym h.0))
 
-module _ (d : Lines) (programs : List (List Call)) (m : Memory) (w : Actors) (t cq most : ℕ) (l : Lists) (v : Verbs) (p : PollRule) (given : List Completion) (now : PollNow d programs m w t cq most l v p given) where
+module _ (d : Lines) (m : Memory) (around : View) (cq most : ℕ) (l : Lists) (v : Verbs) (p : PollRule) (given : List Completion) (now : PollNow d m around cq most l v p given) where
   pub finds_now : (qp : ℕ) → HasPlace d cq qp → Finds l qp (retirer_in p.retirers (place_in d cq qp))
   finds_now qp place = let r = (now.sends qp place).retirer in record { tail = r.tail; found = r.found; low = now.low qp place }
 

@@ -4,7 +4,6 @@ use Rattle.std.proofs.lemmas.List.{get_or-set_same, get_or-set_other}
 use Rattle.std.proofs.Math.ListN.{length-set}
 use Rattle.bus_core.specs.declared.operation.BusEntry.{BusEntry}
 use Rattle.bus_core.specs.Trace.{Memory, after_entry, Tells}
-use Rattle.verbs_types.specs.declared.call.Call.{Call}
 use Rattle.verbs_types.specs.declared.completion.Completion.{Completion}
 use Rattle.verbs_types.specs.declared.completion.Queue.TheVariants.{Send}
 use Rattle.verbs_types.specs.declared.declaration.Lines.{Lines}
@@ -28,16 +27,16 @@ use Rattle.provider_poll.specs.RuleStep.{asked_in, asked_with, retirers_with, po
 use Rattle.provider_poll.specs.SendQueue.{SendView}
 use Rattle.actor_rules.specs.Thread.{completing, poll_place}
 use Rattle.actor_rules.specs.Polling.{place_in}
-use Rattle.actor_rules.specs.Actors.{Actors}
 use Rattle.verbs_laws.proofs.Choices.{either}
-use Rattle.actor_rules.proofs.Objects.{Lists, poster_side, retirer_in}
+use Rattle.actor_rules.proofs.View.{View}
+use Rattle.actor_rules.proofs.Objects.{Lists, retirer_in}
 use Rattle.actor_rules.proofs.Completions.{IsCompletion}
 use Rattle.actor_rules.proofs.PollPlaces.{HasPlace, same_pair, living_by_place}
 use Rattle.actor_rules.proofs.PollLists.{view, view_there}
 use Rattle.actor_rules.proofs.PollNow.{PollNow}
 use Rattle.actor_rules.proofs.PollReady.{views, Finds, finds_now}
 
-module _ (d : Lines) (programs : List (List Call)) (m : Memory) (w : Actors) (t cq most : ℕ) (l : Lists) (v : Verbs) (p : PollRule) (given : List Completion) (now : PollNow d programs m w t cq most l v p given) (e : BusEntry)
+module _ (d : Lines) (m : Memory) (around : View) (cq most : ℕ) (l : Lists) (v : Verbs) (p : PollRule) (given : List Completion) (now : PollNow d m around cq most l v p given) (e : BusEntry)
     (qp : ℕ) (place : HasPlace d cq qp) where
   abbrev pub here : ℕ
   here = place_in d cq qp
@@ -75,11 +74,11 @@ module _ (d : Lines) (programs : List (List Call)) (m : Memory) (w : Actors) (t 
         turn_of o = asked_with (poll_place d cq) p (views d cq (retirers_with p.retirers here mark e o)) mark e o
 
     pub serve_there : MayServe (send_of d qp) side_of mark e → touches d (Sends qp) e.addr ≡ true
-    serve_there may = serve_inside (send_of d qp) fine_now e m (poster_side programs w (Send qp)) side_of (w.adapter.readers qp) (l.queues (Send qp)) mark (now.sends qp place) may
+    serve_there may = serve_inside (send_of d qp) fine_now e m (around.posters (Send qp)) side_of (around.readers qp) (l.queues (Send qp)) mark (now.sends qp place) may
 
     pub serve_goes : MayServe (send_of d qp) side_of mark e → Tells m e → requests.Asks (send_of d qp) (l.queues (Send qp)) (served (send_of d qp) side_of mark e)
-        → requests.Goes (send_of d qp) (after_entry m e) (poster_side programs w (Send qp)) side_then (w.adapter.readers qp) (l.queues (Send qp)) (served (send_of d qp) side_of mark e)
-    serve_goes may tells asks = retirer_step (send_of d qp) m (poster_side programs w (Send qp)) side_of (w.adapter.readers qp) (l.queues (Send qp)) mark e fine_now (now.sends qp place) tells may asks
+        → requests.Goes (send_of d qp) (after_entry m e) (around.posters (Send qp)) side_then (around.readers qp) (l.queues (Send qp)) (served (send_of d qp) side_of mark e)
+    serve_goes may tells asks = retirer_step (send_of d qp) m (around.posters (Send qp)) side_of (around.readers qp) (l.queues (Send qp)) mark e fine_now (now.sends qp place) tells may asks
 
   -- The retirers, where this one has come so far
 
@@ -111,7 +110,7 @@ module _ (d : Lines) (programs : List (List Call)) (m : Memory) (w : Actors) (t 
       | inl same ↦
           let one : other ≡ qp = same_pair d cq other qp h place same in
           subst (λ (i : ℕ). Finds l i (retirer_in retirers_with_side (place_in d cq i))) (sym one) (subst (Finds l qp) (sym side_here) mine)
-      | inr apart ↦ subst (Finds l other) (sym (side_there (place_in d cq other) apart)) (finds_now d programs m w t cq most l v p given now other h)
+      | inr apart ↦ subst (Finds l other) (sym (side_there (place_in d cq other) apart)) (finds_now d m around cq most l v p given now other h)
     ]
 
   -- a completion's request was taken and is not retired

@@ -6,7 +6,6 @@ use Rattle.std.proofs.lemmas.Option.{get_or_from_slice_get}
 use Rattle.bus_core.specs.declared.operation.BusEntry.{BusEntry}
 use Rattle.bus_core.specs.declared.turn.Step.TheVariants.{More}
 use Rattle.bus_core.specs.Trace.{Memory, after_entry, Tells}
-use Rattle.verbs_types.specs.declared.call.Call.{Call}
 use Rattle.verbs_types.specs.declared.completion.Completion.{Completion}
 use Rattle.verbs_types.specs.declared.completion.Queue.TheVariants.{Send}
 use Rattle.verbs_types.specs.declared.declaration.Lines.{Lines}
@@ -33,10 +32,10 @@ use Rattle.provider_poll.specs.Stores.{may_store, storing}
 use Rattle.device_engine.specs.State.{send_cq}
 use Rattle.actor_rules.specs.Thread.{poll_place, completing}
 use Rattle.actor_rules.specs.Polling.{place_in, store_says}
-use Rattle.actor_rules.specs.Actors.{Actors}
 use Rattle.actor_rules.specs.Dues.{is_storing, store_dues, retiring}
 use Rattle.verbs_rules.specs.Sane.{Climbs, numbers_in}
 use Rattle.verbs_laws.proofs.Choices.{either, differs}
+use Rattle.actor_rules.proofs.View.{View}
 use Rattle.actor_rules.proofs.Objects.{Lists, retirer_in}
 use Rattle.actor_rules.proofs.Completions.{CompletionsStand, PollStands, IsPending, AskedFor, held, pending, ends_on}
 use Rattle.actor_rules.proofs.Threads.{IsPollFor}
@@ -45,12 +44,13 @@ use Rattle.actor_rules.proofs.PollFrame.{SameWork, work_refl}
 use Rattle.actor_rules.proofs.PollLists.{all_by, may_be_stored}
 use Rattle.actor_rules.proofs.PollNow.{PollNow, in_hand}
 use Rattle.actor_rules.proofs.PollOutcomes.{Outcome, Stores}
-use Rattle.actor_rules.proofs.PollMoves.{VerbsKept, queue_moves, queue_here, queue_there, queue_cases}
+use Rattle.actor_rules.proofs.PollMoves.{VerbsKept, queue_moves}
+use Rattle.actor_rules.proofs.PerQueue.{queue_here, queue_there, queue_cases}
 use Rattle.actor_rules.proofs.PollReady.{views, stores_these, idle_retiring, finds_now}
 use Rattle.actor_rules.proofs.PollServed.{served_is, retirers_then, turn_then, turns_by, serve_there, serve_goes, side_here, side_there, side_cases, sides_long}
 
-module _ (d : Lines) (programs : List (List Call)) (m : Memory) (w : Actors) (t cq most : ℕ) (l : Lists) (v : Verbs) (c : Consumer) (seen : ℕ) (rs : List Retirer) (taken : ℕ) (empty : Option ℕ) (x : End) (xs : List End) (given : List Completion)
-    (now : PollNow d programs m w t cq most l v (record { host = c; seen = seen; retirers = rs; state = states.Retiring taken empty (record { items = x ∷ xs }) }) given) (e : BusEntry)
+module _ (d : Lines) (m : Memory) (around : View) (cq most : ℕ) (l : Lists) (v : Verbs) (c : Consumer) (seen : ℕ) (rs : List Retirer) (taken : ℕ) (empty : Option ℕ) (x : End) (xs : List End) (given : List Completion)
+    (now : PollNow d m around cq most l v (record { host = c; seen = seen; retirers = rs; state = states.Retiring taken empty (record { items = x ∷ xs }) }) given) (e : BusEntry)
     (qp : ℕ) (place : HasPlace d cq qp) (is_here : place_in d cq qp ≡ x.queue) (tells : Tells m e) where
   abbrev side : PollRule
   side = record { host = c; seen = seen; retirers = rs; state = states.Retiring taken empty (record { items = x ∷ xs }) }
@@ -62,7 +62,7 @@ module _ (d : Lines) (programs : List (List Call)) (m : Memory) (w : Actors) (t 
   stored = after_retire mine x.end
 
   abbrev rs' : List Retirer
-  rs' = retirers_then d programs m w t cq most l v side given now e qp place (Retire x.end)
+  rs' = retirers_then d m around cq most l v side given now e qp place (Retire x.end)
 
   abbrev v' : Verbs
   v' = after v (RetireEntry (Send qp) x.end)
@@ -110,35 +110,35 @@ module _ (d : Lines) (programs : List (List Call)) (m : Memory) (w : Actors) (t 
   -- The ends that are left
 
   found_kept : (i : ℕ) → (retirer_in rs i).found ≤ (retirer_in rs' i).found
-  found_kept = side_cases d programs m w t cq most l v side given now e qp place stored (λ i r. (retirer_in rs i).found ≤ r.found) (omega arith) (λ i apart. omega arith)
+  found_kept = side_cases d m around cq most l v side given now e qp place stored (λ i r. (retirer_in rs i).found ≤ r.found) (omega arith) (λ i apart. omega arith)
 
   pending_kept : (y : End) → IsPending d cq rs y → IsPending d cq rs' y
   pending_kept y h = record { qp = h.qp; place = h.place; queue = h.queue; found = omega (arith, h.found, found_kept y.queue) }
 
   none_asked : (i : ℕ) → (retirer_in rs' i).asked ≡ None
-  none_asked = side_cases d programs m w t cq most l v side given now e qp place stored (λ i r. r.asked ≡ None) refl (λ i apart. idle_retiring taken empty (record { items = x ∷ xs }) i (retirer_in rs i).asked (now.stands.asked i))
+  none_asked = side_cases d m around cq most l v side given now e qp place stored (λ i r. r.asked ≡ None) refl (λ i apart. idle_retiring taken empty (record { items = x ∷ xs }) i (retirer_in rs i).asked (now.stands.asked i))
 
   -- the next one may be stored
   next_ready : (y : End) (ys : List End) → xs ≡ y ∷ ys → IsPending d cq rs y → may_store (views d cq rs') y ≡ true
   next_ready y ys xs_are h =
       let its : HasPlace d cq h.qp = place_of_position d cq h.qp h.place in
-      let finds = finds_now d programs m w t cq most l v side given now h.qp its in
+      let finds = finds_now d m around cq most l v side given now h.qp its in
       let found : y.end ≤ (retirer_in rs (place_in d cq h.qp)).found = subst (λ (i : ℕ). y.end ≤ (retirer_in rs i).found) h.queue h.found in
       let mine_is : ends_on (place_in d cq h.qp) xs ≡ y.end ∷ ends_on (place_in d cq h.qp) ys = ap (ends_on (place_in d cq h.qp)) xs_are ∙ ap (λ (b : Bool). if b then y.end ∷ ends_on (place_in d cq h.qp) ys else ends_on (place_in d cq h.qp) ys) (eq-eqb y.queue (place_in d cq h.qp) h.queue) in
       let more : List ℕ = numbers_in h.qp (v.completions cq).unpolled ++ in_hand v h.qp in
-      may_be_stored d cq h.qp rs' y (sides_long d programs m w t cq most l v side given now e qp place stored) its h.queue (record {
+      may_be_stored d cq h.qp rs' y (sides_long d m around cq most l v side given now e qp place stored) its h.queue (record {
         idle = none_asked (place_in d cq h.qp);
         later = elim (either (place_in d cq h.qp) (place_in d cq qp)) [
           | inl same ↦
               let one : h.qp ≡ qp = same_pair d cq h.qp qp its place same in
               let both : (v.queues (Send h.qp)).ends ≡ x.end ∷ y.end ∷ ends_on (place_in d cq h.qp) ys = ap (λ (i : ℕ). (v.queues (Send i)).ends) one ∙ first_is ∙ ap (λ (ns : List ℕ). x.end ∷ ns) (ap (λ (i : ℕ). ends_on i xs) (sym same) ∙ mine_is) in
               let climbs : Climbs (l.queues (Send h.qp)).retired (x.end ∷ y.end ∷ ends_on (place_in d cq h.qp) ys ++ more) (l.queues (Send h.qp)).taken = subst (λ (ns : List ℕ). Climbs (l.queues (Send h.qp)).retired (ns ++ more) (l.queues (Send h.qp)).taken) both (now.under_way h.qp its) in
-              let tail : (retirer_in rs' (place_in d cq h.qp)).tail ≡ x.end = ap (λ (i : ℕ). (retirer_in rs' i).tail) same ∙ ap (λ (r : Retirer). r.tail) (side_here d programs m w t cq most l v side given now e qp place stored) in
+              let tail : (retirer_in rs' (place_in d cq h.qp)).tail ≡ x.end = ap (λ (i : ℕ). (retirer_in rs' i).tail) same ∙ ap (λ (r : Retirer). r.tail) (side_here d m around cq most l v side given now e qp place stored) in
               omega (arith, tail, climbs.1.0)
           | inr apart ↦
               let one : (v.queues (Send h.qp)).ends ≡ y.end ∷ ends_on (place_in d cq h.qp) ys = others_are h.qp its apart ∙ mine_is in
               let climbs : Climbs (l.queues (Send h.qp)).retired (y.end ∷ ends_on (place_in d cq h.qp) ys ++ more) (l.queues (Send h.qp)).taken = subst (λ (ns : List ℕ). Climbs (l.queues (Send h.qp)).retired (ns ++ more) (l.queues (Send h.qp)).taken) one (now.under_way h.qp its) in
-              let tail : (retirer_in rs' (place_in d cq h.qp)).tail ≡ (retirer_in rs (place_in d cq h.qp)).tail = ap (λ (r : Retirer). r.tail) (side_there d programs m w t cq most l v side given now e qp place stored (place_in d cq h.qp) apart) in
+              let tail : (retirer_in rs' (place_in d cq h.qp)).tail ≡ (retirer_in rs (place_in d cq h.qp)).tail = ap (λ (r : Retirer). r.tail) (side_there d m around cq most l v side given now e qp place stored (place_in d cq h.qp) apart) in
               omega (arith, tail, finds.tail, climbs.0)
         ];
         found = omega (arith, found, found_kept (place_in d cq h.qp));
@@ -155,17 +155,14 @@ module _ (d : Lines) (programs : List (List Call)) (m : Memory) (w : Actors) (t 
     stands_then : CompletionsStand d l settled given v' cq
     stands_then =
         let s = now.stands in record {
-          acked = s.acked;
-          produced = s.produced;
-          size = s.size;
-          runs = s.runs;
+          counts = s.counts;
           from = s.from;
           from_is = ap (λ (n : ℕ). s.from + n) holds ∙ s.from_is;
           low = s.low;
           unpolled = s.unpolled;
           reads = s.reads;
           poll = polls (v.completions cq).unpolled;
-          retirers = sides_long d programs m w t cq most l v side given now e qp place stored;
+          retirers = sides_long d m around cq most l v side given now e qp place stored;
           asked = λ i. subst (AskedFor state i) (sym (none_asked i)) (asks i);
           ends = λ i lives home. ends_then i lives home ∙ ap (λ (ys : List End). ends_on (place_in d cq i) ys) (sym left_is);
         }
@@ -173,9 +170,9 @@ module _ (d : Lines) (programs : List (List Call)) (m : Memory) (w : Actors) (t 
     retiring_is : retiring d cq x ≡ Retiring (Send qp)
     retiring_is = ap (λ (i : ℕ). Retiring (Send (slice_index_or (completing d cq) i 0))) (sym is_here) ∙ ap (λ (n : ℕ). Retiring (Send n)) (get_or_from_slice_get (completing d cq) (place_in d cq qp) qp 0 place.there)
 
-    stores : Outcome d programs (after_entry m e) w t cq most l v side given settled More (Some (RetireEntry (Send qp) x.end))
+    stores : Outcome d (after_entry m e) around cq most l v side given settled More (Some (RetireEntry (Send qp) x.end))
     stores =
-        let goes = serve_goes d programs m w t cq most l v side given now e qp place (Retire x.end) may tells tt in
+        let goes = serve_goes d m around cq most l v side given now e qp place (Retire x.end) may tells tt in
         Stores (record {
           qp = qp;
           number = x.end;
@@ -187,8 +184,8 @@ module _ (d : Lines) (programs : List (List Call)) (m : Memory) (w : Actors) (t 
           before = refl;
           stores = is_stores;
           owed = ap (λ (due : Due). due ∷ (map (retiring d cq) xs ++ Acking cq ∷ [])) retiring_is ∙ ap (λ (ds : List Due). Retiring (Send qp) ∷ ds) (sym owed);
-          moved = queue_moves d programs m w t cq most l v side given now e settled given v' qp place stored (counted.after_event (send_of d qp) (l.queues (Send qp)) (counted.Retired x.end)) (record {
-            inside = serve_there d programs m w t cq most l v side given now e qp place (Retire x.end) may;
+          moved = queue_moves d m around cq most l v side given now e settled given v' qp place stored (counted.after_event (send_of d qp) (l.queues (Send qp)) (counted.Retired x.end)) (record {
+            inside = serve_there d m around cq most l v side given now e qp place (Retire x.end) may;
             tied = goes.1;
             host = refl;
             retirers = refl;
@@ -202,7 +199,7 @@ module _ (d : Lines) (programs : List (List Call)) (m : Memory) (w : Actors) (t 
 
   module _ (may : MayServe (send_of d qp) mine (Retire x.end) e) where
     abbrev Comes : PollState → Type 0
-    Comes state = Outcome d programs (after_entry m e) w t cq most l v side given (record { host = c; seen = seen; retirers = rs'; state = state }) More (Some (RetireEntry (Send qp) x.end))
+    Comes state = Outcome d (after_entry m e) around cq most l v side given (record { host = c; seen = seen; retirers = rs'; state = state }) More (Some (RetireEntry (Send qp) x.end))
 
     by_left : (ys : List End) → xs ≡ ys → Comes (storing (views d cq rs') taken empty xs)
     by_left [] is =
@@ -215,10 +212,10 @@ module _ (d : Lines) (programs : List (List Call)) (m : Memory) (w : Actors) (t 
         (λ us. (omega arith, now.stands.poll.1, all_by (IsPending d cq rs) (IsPending d cq rs') pending_kept (y ∷ ys) all)) tt)
 
   pub stores_tail : (mark : WqMark) → MayRetire (poll_place d cq) side x (place_in d cq qp) mark e
-      → Outcome d programs (after_entry m e) w t cq most l v side given (after_poll_side (poll_place d cq) side (OnQueue (place_in d cq qp) mark) e) (poll_side_step (poll_place d cq) side (OnQueue (place_in d cq qp) mark) e).answer (store_says (OnSends qp mark))
+      → Outcome d (after_entry m e) around cq most l v side given (after_poll_side (poll_place d cq) side (OnQueue (place_in d cq qp) mark) e) (poll_side_step (poll_place d cq) side (OnQueue (place_in d cq qp) mark) e).answer (store_says (OnSends qp mark))
   stores_tail mark may =
-      let view_is = served_is d programs m w t cq most l v side given now e qp place x.queue mark may.serves is_here in
+      let view_is = served_is d m around cq most l v side given now e qp place x.queue mark may.serves is_here in
       let serves : MayServe (send_of d qp) mine mark e = subst (λ (q : SendView). MayServe q.place q.side mark e) view_is may.serves.serves in
-      turns_by d programs m w t cq most l v side given now e qp place mark (λ (p : PollRule) (turn : PollStep). Outcome d programs (after_entry m e) w t cq most l v side given p turn.answer (store_says (OnSends qp mark)))
-      (subst (λ (k : WqMark). Outcome d programs (after_entry m e) w t cq most l v side given (record { host = c; seen = seen; retirers = retirers_then d programs m w t cq most l v side given now e qp place k; state = (turn_then d programs m w t cq most l v side given now e qp place k).state }) (turn_then d programs m w t cq most l v side given now e qp place k).answer (store_says (OnSends qp k)))
+      turns_by d m around cq most l v side given now e qp place mark (λ (p : PollRule) (turn : PollStep). Outcome d (after_entry m e) around cq most l v side given p turn.answer (store_says (OnSends qp mark)))
+      (subst (λ (k : WqMark). Outcome d (after_entry m e) around cq most l v side given (record { host = c; seen = seen; retirers = retirers_then d m around cq most l v side given now e qp place k; state = (turn_then d m around cq most l v side given now e qp place k).state }) (turn_then d m around cq most l v side given now e qp place k).answer (store_says (OnSends qp k)))
       (sym may.mark_is) (by_left (subst (λ (k : WqMark). MayServe (send_of d qp) mine k e) may.mark_is serves) xs refl))

@@ -11,11 +11,11 @@ use Rattle.verbs_types.specs.declared.state.Unpolled.{Unpolled}
 use Rattle.verbs_rules.specs.Rows.{end, end_all}
 use Rattle.verbs_rules.specs.Family.{put}
 use Rattle.verbs_rules.specs.Same.{same_queue}
-use Rattle.verbs_rules.specs.State.{WorkQueue, CompletionQueue, Verbs}
+use Rattle.verbs_rules.specs.State.{WorkQueue, Verbs}
 use Rattle.verbs_rules.specs.Step.{after}
 use Rattle.owner_ring.specs.Consumer.{Consumer, next_index}
 use Rattle.cqe_format.specs.declared.completion.Cqe.{Cqe}
-use Rattle.cq_pair.specs.Queue.{produced, since}
+use Rattle.cq_pair.specs.Queue.{since}
 use Rattle.counted_ring.specs.Retirer.{Asked, Retirer}
 use Rattle.provider_poll.specs.declared.state.End.{End}
 use Rattle.provider_poll.specs.declared.state.PollState.TheVariants as states
@@ -27,12 +27,13 @@ use Rattle.verbs_rules.specs.Sane.{numbers_in}
 use Rattle.verbs_laws.proofs.Choices.{differs}
 use Rattle.actor_rules.proofs.Matching.{Match, match_drop, match_length}
 use Rattle.actor_rules.proofs.Objects.{Lists, retirer_in}
-use Rattle.actor_rules.proofs.Completions.{CompletionsStand, IsCompletion, IsEnd, IsPending, AskedFor, ReadsNext, ends_on, pending}
+use Rattle.actor_rules.proofs.Completions.{CompletionsIn, ends_in, CompletionsStand, IsCompletion, IsEnd, IsPending, AskedFor, ReadsNext, ends_on, pending}
 use Rattle.verbs_laws.proofs.Waiting.{completion_in, ended_at}
 use Rattle.actor_rules.proofs.PollPlaces.{living_by_place, place_by_living}
-use Rattle.actor_rules.proofs.PollFrame.{put_here, put_there}
+use Rattle.actor_rules.proofs.Threading.{put_here, put_there}
 use Rattle.actor_rules.proofs.PollLists.{IsPlaced, ends_are}
-use Rattle.actor_rules.proofs.PollMoves.{VerbsKept, queue_cases}
+use Rattle.actor_rules.proofs.PollMoves.{VerbsKept}
+use Rattle.actor_rules.proofs.PerQueue.{queue_cases}
 
 -- The state
 
@@ -137,19 +138,15 @@ module _ (d : Lines) (cq most : ℕ) (v : Verbs) (placed : AllByRecursion (IsPla
     pub told_stands : HasTold → CompletionsStand d l storing_now given' told cq
     told_stands h =
         let count : length xs ≡ length es = length-map (take most us) completion_in ∙ sym (match_length (IsEnd d cq rs) es (take most us) h.match) in
-        let c : CompletionQueue = record (v.completions cq) { unpolled = drop (length xs) us } in
         let there : Match (IsCompletion l) (drop (length xs) (since (l.completions cq) s.from)) (drop (length xs) us) = match_drop (IsCompletion l) (length xs) _ us s.unpolled in
         let further : drop (length xs) (since (l.completions cq) s.from) ≡ since (l.completions cq) (s.from + length es) =
         drop-drop (length xs) (s.from - (l.completions cq).acked) (l.completions cq).completions ∙ ap (λ (n : ℕ). drop n (l.completions cq).completions) (omega (arith, s.low, count)) in
-        record {
-          acked = ap (λ (x : CompletionQueue). x.acked) told_completions ∙ s.acked;
-          produced = ap (λ (x : CompletionQueue). x.produced) told_completions ∙ s.produced;
-          size = ap (λ (x : CompletionQueue). x.size) told_completions ∙ s.size;
-          runs = s.runs;
+        coe 1 0 (i. CompletionsIn d cq l.queues (l.completions cq) storing_now given' (told_completions i) (ends_in told)) (record {
+          counts = s.counts;
           from = s.from + length es;
           from_is = let same : s.from + length es + 0 ≡ s.from + length es = omega arith in same ∙ h.next;
           low = omega (arith, s.low);
-          unpolled = subst (λ (x : CompletionQueue). Match (IsCompletion l) (since (l.completions cq) (s.from + length es)) x.unpolled) (sym told_completions) (subst (λ (cs : List Cqe). Match (IsCompletion l) cs (drop (length xs) us)) further there);
+          unpolled = subst (λ (cs : List Cqe). Match (IsCompletion l) cs (drop (length xs) us)) further there;
           reads = h.reads;
           poll = (h.some, h.taken_some, pending_all rs es (take most us) taken_placed h.match);
           retirers = h.long;
@@ -158,4 +155,4 @@ module _ (d : Lines) (cq most : ℕ) (v : Verbs) (placed : AllByRecursion (IsPla
               told_ends qp
               ∙ ap (λ (ns : List ℕ). ns ++ numbers_in qp (take most us)) (s.ends qp lives home ∙ ap (λ (xs : List End). ends_on (place_in d cq qp) xs) h.fresh)
               ∙ sym (ends_are d cq rs qp es (take most us) (place_by_living d cq qp lives home) taken_placed h.match);
-        }
+        })

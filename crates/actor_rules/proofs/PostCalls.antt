@@ -1,7 +1,7 @@
 -- A call to post, of a send or a receive queue, as its thread owes it.
-use Rattle.std.proofs.Common.{◌≡◌, ◌≢◌, ◌⊎◌, ℕ, zero, suc, ◌<◌, ◌≤◌, ◌==◌, ◌||◌, ◌&&◌, inl, inr, refl, sym, ap, subst, ◌∙◌, arith, true, false, Bool, if◌then◌else◌, List, [], ◌∷◌, ◌++◌, length, map, take, Option, None, Some, is_some, unwrap_or, slice_index_or}
+use Rattle.std.proofs.Common.{◌≡◌, ◌≢◌, ℕ, ◌<◌, ◌==◌, ◌||◌, refl, sym, ap, subst, ◌∙◌, arith, true, false, Bool, if◌then◌else◌, List, [], ◌∷◌, ◌++◌, length, map, Option, None, Some, is_some, unwrap_or}
 use Rattle.std.specs.List.{AllByRecursion, flat_map, list_all}
-use Rattle.std.proofs.lemmas.Bool.{cases_Bool, false≢true, eq-eqb, eqb-true, eqb-false}
+use Rattle.std.proofs.lemmas.Bool.{false≢true, eq-eqb, eqb-true, eqb-false}
 use Rattle.verbs_types.specs.declared.call.Call.{Call}
 use Rattle.verbs_types.specs.declared.call.Call.TheVariants.{Post, Recv, Poll, Drain}
 use Rattle.verbs_types.specs.declared.completion.Queue.{Queue}
@@ -9,21 +9,16 @@ use Rattle.verbs_types.specs.declared.completion.Queue.TheVariants as queues
 use Rattle.verbs_types.specs.declared.declaration.Lines.{Lines}
 use Rattle.verbs_types.specs.declared.request.Item.{Item}
 use Rattle.verbs_types.specs.declared.request.Item.TheVariants.{Request as TheRequest, Receive as TheReceive}
-use Rattle.verbs_rules.specs.Answered.{Due, Posting, Accepting, due_by}
+use Rattle.verbs_rules.specs.Answered.{due_by}
 use Rattle.verbs_rules.specs.Same.{same_queue}
-use Rattle.counted_ring.specs.declared.place.WqPlace.{WqPlace}
-use Rattle.counted_ring.specs.Place.{is_send}
-use Rattle.counted_ring.specs.Poster.{Poster, Stage, Ready, Ringing}
+use Rattle.counted_ring.specs.Poster.{Poster}
 use Rattle.provider_post.specs.declared.call.Call as post
 use Rattle.provider_post.specs.Call.{is_written, fresh_call}
-use Rattle.provider_post.specs.Inside.{StageFits}
-use Rattle.provider_poll.specs.declared.state.PollState.TheVariants as states
 use Rattle.actor_rules.specs.Thread.{Thread}
 use Rattle.actor_rules.specs.Dues.{thread_dues, call_dues, post_dues}
-use Rattle.actor_rules.proofs.PostStands.{tell_queue}
 use Rattle.verbs_rules.specs.Rows.{item_fits}
 use Rattle.actor_rules.proofs.Queues.{QueueLives, written_by, accepted, segments_of}
-use Rattle.actor_rules.proofs.StartHolds.{written_none, dues_of_calls}
+use Rattle.actor_rules.proofs.StartHolds.{dues_of_calls}
 use Rattle.actor_rules.specs.Ready.{IsOwnCall, IsOwnPost}
 use Rattle.actor_rules.proofs.Threads.{IsPosting, IsPostAt, StandsAt, PostsAt, RestsAt}
 

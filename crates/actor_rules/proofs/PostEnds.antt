@@ -1,9 +1,8 @@
 -- Whether an operation of a call to post is the call's last one.
-use Rattle.std.proofs.Common.{◌≡◌, ℕ, suc, zero, ◌<◌, ◌+◌, ◌==◌, ◌||◌, ◌&&◌, not, refl, sym, ap, subst, ◌∙◌, arith, true, false, Bool, if◌then◌else◌, Option, None, Some, is_some}
-use Rattle.std.proofs.lemmas.Bool.{eqb-true, false≢true}
+use Rattle.std.proofs.Common.{◌≡◌, ℕ, ◌<◌, ◌==◌, ◌||◌, ◌&&◌, not, refl, arith, true, false, Bool, is_some}
+use Rattle.std.proofs.lemmas.Bool.{eqb-true}
 use Rattle.counted_ring.specs.declared.place.WqPlace.{WqPlace}
 use Rattle.counted_ring.specs.Place.{is_send}
-use Rattle.provider_post.specs.declared.answer.Room.{Room}
 use Rattle.provider_post.specs.declared.call.Call.{Call}
 use Rattle.provider_post.specs.Call.{is_last}
 

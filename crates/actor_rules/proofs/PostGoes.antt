@@ -1,34 +1,27 @@
 -- An operation of a call to post keeps what holds, and what it says is a legal step that its thread owes.
-use Rattle.std.proofs.Common.{◌≡◌, ◌≢◌, ◌⊎◌, ℕ, zero, suc, ◌<◌, ◌≤◌, ◌+◌, ◌-◌, ◌==◌, ◌||◌, ◌&&◌, not, inl, inr, refl, sym, ap, subst, ◌∙◌, arith, true, false, Bool, if◌then◌else◌, List, [], ◌∷◌, ◌++◌, length, map, take, min, Option, None, Some, is_some, unwrap_or, option_map, slice_get, slice_set, slice_index_or}
-use Rattle.std.specs.List.{AllByRecursion, flat_map, list_all}
-use Rattle.std.proofs.lemmas.Bool.{and_parts, cases_Bool, false≢true, eq-eqb, eqb-true, eqb-false}
+use Rattle.std.proofs.Common.{◌≡◌, ◌≢◌, ℕ, zero, suc, ◌<◌, ◌≤◌, ◌+◌, ◌==◌, ◌||◌, not, inl, inr, refl, sym, ap, subst, ◌∙◌, arith, true, false, Bool, if◌then◌else◌, List, [], ◌∷◌, ◌++◌, length, take, min, Option, None, Some, is_some, unwrap_or, option_map, slice_get, slice_set, slice_index_or}
+use Rattle.std.specs.List.{flat_map, list_all}
+use Rattle.std.proofs.lemmas.Bool.{and_parts, cases_Bool, false≢true, eqb-true, eqb-false}
 use Rattle.std.proofs.lemmas.List.{append_assoc, length-append, length-set, length-take, get_or-set_same, get_or-set_other}
 use Rattle.std.proofs.Math.Seq.{take-length}
 use Rattle.bus_core.specs.Mark.{Marked}
 use Rattle.bus_core.specs.Trace.{Memory, Tells, after_entry}
 use Rattle.verbs_types.specs.declared.call.Call.{Call}
 use Rattle.verbs_types.specs.declared.completion.Queue.{Queue}
-use Rattle.verbs_types.specs.declared.completion.Queue.TheVariants as queues
 use Rattle.verbs_types.specs.declared.declaration.Lines.{Lines}
-use Rattle.verbs_types.specs.declared.entry.Entry.{Entry}
 use Rattle.verbs_types.specs.declared.entry.What.{What}
 use Rattle.verbs_types.specs.declared.entry.What.TheVariants.{Post, PostFull}
 use Rattle.verbs_types.specs.declared.request.Item.{Item}
 use Rattle.verbs_rules.specs.Answered.{Due, Posting, Accepting, Answers, MayAnswer, left_by, after_answer, due_by}
 use Rattle.verbs_rules.specs.Family.{put}
 use Rattle.verbs_rules.specs.Rows as rows
-use Rattle.verbs_rules.specs.Same.{same_queue}
 use Rattle.verbs_rules.specs.State.{Verbs, WorkQueue}
 use Rattle.verbs_rules.specs.Step.{MayStep, after}
 use Rattle.verbs_rules.specs.Running.{Running, after_turn}
 use Rattle.counted_ring.specs.declared.place.WqPlace.{WqPlace}
-use Rattle.counted_ring.specs.Device.{WqReader}
-use Rattle.counted_ring.specs.Mark as marks
 use Rattle.counted_ring.specs.Place.{is_send}
-use Rattle.counted_ring.specs.Poster.{Poster, Stage, Ready, Ringing}
-use Rattle.counted_ring.specs.PosterView.{after_bring, brought}
+use Rattle.counted_ring.specs.Poster.{Poster, Ready, Ringing}
 use Rattle.counted_ring.specs.Queue as counted
-use Rattle.counted_ring.specs.Retirer.{Retirer}
 use Rattle.counted_ring.proofs.PosterStep.{poster_step}
 use Rattle.counted_ring.proofs.Says.{bring_inside}
 use Rattle.counted_ring.proofs.Tied as requests
@@ -36,27 +29,25 @@ use Rattle.object_places.specs.Objects.{Mark, touches}
 use Rattle.provider_post.specs.declared.call.Call as post
 use Rattle.provider_post.specs.Call.{is_written, mark_of, call_after, told_of}
 use Rattle.provider_post.specs.Item.{WritesItem, IsNextItem, IsWrittenItem}
-use Rattle.provider_post.specs.Rule.{PostRule, post_side_says, post_side_poster, post_side_call, post_side_entry, entry_told, next_call}
+use Rattle.provider_post.specs.Rule.{PostRule, post_side_says, post_side_poster, post_side_call, entry_told, next_call}
 use Rattle.actor_rules.specs.Owners.{poster_of}
 use Rattle.actor_rules.specs.Thread.{Thread, queue_place}
 use Rattle.actor_rules.specs.Family.{put_number}
 use Rattle.actor_rules.specs.Posting.{MayPost, after_post, calls_after_post, post_now, post_says}
 use Rattle.actor_rules.specs.Actors.{Actors, by, posted_with}
-use Rattle.actor_rules.specs.Dues.{dues_at, thread_dues, post_dues}
+use Rattle.actor_rules.specs.Dues.{dues_at, post_dues}
 use Rattle.verbs_rules.specs.Proper as proper
 use Rattle.verbs_rules.specs.Sane as verbs
 use Rattle.actor_rules.proofs.Dues.{dues_at-set}
-use Rattle.actor_rules.proofs.Growing.{Grows, grows_same, grows_event}
+use Rattle.actor_rules.proofs.Growing.{Grows, grows_refl, grows_event}
 use Rattle.actor_rules.proofs.Matching.{Match, match_push, match_length}
-use Rattle.actor_rules.proofs.Objects.{poster_side}
-use Rattle.actor_rules.proofs.Queues.{QueueLives, QueueStands, IsItem, written, written_by, accepted, segments_of}
+use Rattle.actor_rules.proofs.Queues.{QueueLives, QueueIs, IsItem, written, written_by, segments_of}
 use Rattle.actor_rules.proofs.StartHolds.{written_none}
-use Rattle.actor_rules.specs.Ready.{IsOwnCall}
-use Rattle.actor_rules.proofs.Threads.{IsPosting, ThreadStands, PostsAt, RestsAt, StandsAt}
-use Rattle.actor_rules.proofs.Threading.{put_here}
-use Rattle.actor_rules.proofs.Holding.{AsDeclared, Stands, Holds, Goes, IsMapped, MayTurn}
-use Rattle.actor_rules.proofs.PostStands.{object_of, tell_queue, put_queue_here, put_queue_there}
-use Rattle.actor_rules.proofs.PostNow.{retirer_at, reader_at, QueueTied, queue_tied, place_fine, touches_queue, now, MovesPost, MovesState, stands_now}
+use Rattle.actor_rules.proofs.Threads.{IsPosting, ThreadStands, PostsAt, RestsAt}
+use Rattle.actor_rules.proofs.Holding.{Stands, Holds, Goes, IsMapped, MayTurn}
+use Rattle.actor_rules.proofs.View.{accepted, written_in}
+use Rattle.actor_rules.proofs.PerQueue.{either_queue, queue_here, queue_there}
+use Rattle.actor_rules.proofs.PostNow.{object_of, retirer_at, reader_at, QueueTied, queue_tied, place_fine, touches_queue, posts_on, Posts, stands_now, stands_still}
 use Rattle.actor_rules.proofs.PostCalls.{now_of, dues_begun, accepted_begun, posting_now, IsOpen, is_open, IsPostCall, begins_next, dues_next}
 use Rattle.actor_rules.proofs.PostLegal.{CanPost, whole_goes, part_goes, full_goes}
 use Rattle.actor_rules.proofs.PostEnds.{ends, ends_open, ends_refused, ends_rung, ends_registered}
@@ -133,7 +124,7 @@ module _ (d : Lines) (programs : List (List Call)) (total : Bounds) (map : IsMap
   posting = posting_now (length items) (s.posters queue) s.posting some call.stands.post
 
   tied : QueueTied d programs m w queue (s.posters queue) q
-  tied = subst (λ (n : ℕ). QueueTied d programs m w queue ((w.threads n).posters queue) q) owner (queue_tied d programs queue m w stands.lists lives stands.objects)
+  tied = subst (λ (n : ℕ). QueueTied d programs m w queue ((w.threads n).posters queue) q) owner (queue_tied d programs queue m w stands.lists lives stands.bare.objects)
 
   outcome : Outcome place c poster'.stage said
   outcome = comes_to place c (s.posters queue) x.entry may.goes_on.brings posting.stage
@@ -147,59 +138,23 @@ module _ (d : Lines) (programs : List (List Call)) (total : Bounds) (map : IsMap
   goes_with : (event : Option counted.WqEvent) → said ≡ event → requests.Goes place (after_entry m x.entry) poster' (retirer_at d programs w queue) (reader_at d w queue) q event
   goes_with event is = subst (requests.Goes place (after_entry m x.entry) poster' (retirer_at d programs w queue) (reader_at d w queue) q) is goes
 
-  -- where nothing is said of the abstract state it stays, and so does what the threads owe
-  state_same : (thread : Thread) → MovesState d programs total m w v holds.dues stands t queue thread w.posted v holds.dues
-  state_same thread = record {
-    others = λ other differ. refl;
-    completions = λ cq. refl;
-    ends = λ qp. refl;
-    taken = λ qp. refl;
-    owed = refl;
-    declared = stands.declared;
-    long = stands.long;
-    sane = stands.sane;
-    told = λ other differ. refl;
-    other_dues = λ k differ. refl;
-  }
-
   -- the thread after the operation, where the call has come so far
   abbrev thread_with : Option post.Call → List Call → Thread
-  thread_with posting' calls = record {
-    calls = calls;
-    posting = posting';
-    given = s.given;
-    posters = put same_queue s.posters queue poster';
-    polls = s.polls;
-    ended = s.ended;
-  }
+  thread_with posting' calls = posts_on s queue poster' posting' calls
 
-  moves_on : (posting' : Option post.Call) → MovesPost d programs total m w v holds.dues stands t queue (thread_with posting' s.calls) w.posted
-  moves_on posting' = record {
-    polls = refl;
-    given = refl;
-    posters = λ other differ. put_queue_there s.posters queue other poster' differ;
-    silent = λ other differ. call.silent s refl other differ;
-    silent_now = λ other differ. call.silent (thread_with posting' s.calls) refl other differ;
-  }
+  -- an operation of a call that goes on, or is over, says nothing of other queues
+  silent_on : (posting' : Option post.Call) (other : Queue) → other ≢ queue → written_in other posting' s.calls ≡ []
+  silent_on posting' other differ = call.silent (thread_with posting' s.calls) refl other differ
 
-  moves_off : MovesPost d programs total m w v holds.dues stands t queue (thread_with None rest) w.posted
-  moves_off = record {
-    polls = refl;
-    given = refl;
-    posters = λ other differ. put_queue_there s.posters queue other poster' differ;
-    silent = λ other differ. call.silent s refl other differ;
-    silent_now = λ other differ. written_none other (thread_with None rest) rest refl;
-  }
-
-  poster_now : (posting' : Option post.Call) (calls : List Call) → (thread_with posting' calls).posters queue ≡ poster'
-  poster_now posting' calls = put_queue_here s.posters queue poster'
+  silent_off : (other : Queue) → other ≢ queue → written_in other None rest ≡ []
+  silent_off other differ = written_none other (thread_with None rest) rest refl
 
   -- a call that goes on stands so
   goes_on_as : (call' : post.Call) → IsPosting (length items) poster' call' → PostsAt (thread_with (Some call') s.calls) queue (length items)
   goes_on_as call' h = record {
-    post = subst (λ (p : Poster). IsPosting (length items) p call') (sym (poster_now (Some call') s.calls)) h;
+    post = subst (λ (p : Poster). IsPosting (length items) p call') (sym (queue_here s.posters queue poster')) h;
     given = call.stands.given;
-    posters = λ other differ. ap (λ (p : Poster). p.stage) (put_queue_there s.posters queue other poster' differ) ∙ call.stands.posters other differ;
+    posters = λ other differ. ap (λ (p : Poster). p.stage) (queue_there s.posters queue poster' other differ) ∙ call.stands.posters other differ;
     polls = call.stands.polls;
   }
 
@@ -208,9 +163,9 @@ module _ (d : Lines) (programs : List (List Call)) (total : Bounds) (map : IsMap
   rests ready = record {
     posting = refl;
     given = call.stands.given;
-    posters = λ other all. elim (tell_queue queue other) [
-      | inl same ↦ subst (λ (k : Queue). ((thread_with None rest).posters k).stage ≡ Ready) (sym same) (ap (λ (p : Poster). p.stage) (poster_now None rest) ∙ ready)
-      | inr differ ↦ ap (λ (p : Poster). p.stage) (put_queue_there s.posters queue other poster' differ) ∙ call.stands.posters other differ
+    posters = λ other all. elim (either_queue other queue) [
+      | inl same ↦ subst (λ (k : Queue). ((thread_with None rest).posters k).stage ≡ Ready) (sym same) (ap (λ (p : Poster). p.stage) (queue_here s.posters queue poster') ∙ ready)
+      | inr differ ↦ ap (λ (p : Poster). p.stage) (queue_there s.posters queue poster' other differ) ∙ call.stands.posters other differ
     ];
     polls = call.stands.polls;
   }
@@ -231,23 +186,24 @@ module _ (d : Lines) (programs : List (List Call)) (total : Bounds) (map : IsMap
 
   -- what the thread owes before it, and what it has written
   owes_now : dues_at holds.dues (suc t) ≡ post_dues queue items (Some c) ++ flat_map due_by rest
-  owes_now = (stands.threads t).dues ∙ call.dues s refl ∙ ap (λ (ds : List Due). ds ++ flat_map due_by rest) (dues_begun queue items s.posting)
+  owes_now = (stands.bare.threads t).dues ∙ call.dues s refl ∙ ap (λ (ds : List Due). ds ++ flat_map due_by rest) (dues_begun queue items s.posting)
 
   written_old : written programs w queue ≡ accepted (Some c) items
   written_old = ap (λ (n : ℕ). written_by queue (w.threads n) (w.threads n).calls) owner ∙ call.writes s refl ∙ accepted_begun items s.posting
 
   abbrev actors : Thread → (Queue → List Item) → Actors
-  actors thread posted = now d programs total m w v holds.dues stands t queue thread posted
+  actors thread posted = record { adapter = w.adapter; threads = put_number w.threads (suc t) thread; posted = posted }
 
-  written_now : (thread : Thread) (posted : Queue → List Item) → written programs (actors thread posted) queue ≡ written_by queue thread thread.calls
-  written_now thread posted = ap (λ (n : ℕ). written_by queue ((actors thread posted).threads n) ((actors thread posted).threads n).calls) owner ∙ ap (λ (k : Thread). written_by queue k k.calls) (put_here w.threads (suc t) thread)
+  -- what the operation made, where the call has come so far
+  abbrev Made : Option post.Call → List Call → counted.Queue → WorkQueue → List Item → List (List Due) → Type 0
+  Made posting' calls q' u told dues = Posts d programs total map m w v holds.dues stands t queue lives owner x.entry poster' posting' calls q' u told dues
 
   -- the queue with these requests, where so much is written
-  queue_with : (thread : Thread) (q' : counted.Queue) (items' : List Item) → written_by queue thread thread.calls ≡ items' → Match (IsItem d queue) q'.requests ((v.queues queue).posted ++ items') → q'.rung ≡ q.rung → q'.taken ≡ q.taken → q'.retired ≡ q.retired
-      → QueueStands d programs (actors thread w.posted) v q' queue
-  queue_with thread q' items' is matched rung taken retired =
-      let old = stands.queues queue lives in record {
-        posted = subst (λ (list : List Item). Match (IsItem d queue) q'.requests ((v.queues queue).posted ++ list)) (sym (written_now thread w.posted ∙ is)) matched;
+  queue_with : (posting' : Option post.Call) (calls : List Call) (q' : counted.Queue) (items' : List Item) → written_in queue posting' calls ≡ items' → Match (IsItem d queue) q'.requests ((v.queues queue).posted ++ items') → q'.rung ≡ q.rung → q'.taken ≡ q.taken → q'.retired ≡ q.retired
+      → QueueIs d (written_in queue posting' calls) (w.posted queue) (v.queues queue) q' queue
+  queue_with posting' calls q' items' is matched rung taken retired =
+      let old = stands.bare.state.queues queue lives in record {
+        posted = subst (λ (list : List Item). Match (IsItem d queue) q'.requests ((v.queues queue).posted ++ list)) (sym is) matched;
         rung = rung ∙ old.rung;
         taken = old.taken ∙ sym taken;
         retired = old.retired ∙ sym retired;
@@ -257,7 +213,7 @@ module _ (d : Lines) (programs : List (List Call)) (total : Bounds) (map : IsMap
       }
 
   matched_old : Match (IsItem d queue) q.requests ((v.queues queue).posted ++ accepted (Some c) items)
-  matched_old = subst (λ (list : List Item). Match (IsItem d queue) q.requests ((v.queues queue).posted ++ list)) written_old (stands.queues queue lives).posted
+  matched_old = subst (λ (list : List Item). Match (IsItem d queue) q.requests ((v.queues queue).posted ++ list)) written_old (stands.bare.state.queues queue lives).posted
 
   abbrev next : post.Call
   next = next_call place rule x.entry
@@ -288,16 +244,19 @@ module _ (d : Lines) (programs : List (List Call)) (total : Bounds) (map : IsMap
   says_of event is = ap (λ (ev : Option counted.WqEvent). entry_told queue items c (told_of ev)) is
 
   -- an operation that says nothing leaves the abstract state and what the threads owe
-  silent : (thread : Thread) (q' : counted.Queue) → Grows q q' → MovesPost d programs total m w v holds.dues stands t queue thread w.posted → QueueTied d programs (after_entry m x.entry) w queue (thread.posters queue) q' → QueueStands d programs (actors thread w.posted) v q' queue
-      → ThreadStands d programs (suc t) thread (dues_at holds.dues (suc t)) → Holds d programs total (after_entry m x.entry) (actors thread w.posted) r
-  silent thread q' grows moves tied' queue' thread' = record {
+  silent : (posting' : Option post.Call) (calls : List Call) (q' : counted.Queue) → Made posting' calls q' (v.queues queue) (w.posted queue) holds.dues → Holds d programs total (after_entry m x.entry) (actors (thread_with posting' calls) w.posted) r
+  silent posting' calls q' made = record {
     dues = holds.dues;
     owed = holds.owed;
-    stands = stands_now d programs total m w v holds.dues stands t queue thread w.posted map x.entry q' v holds.dues lives owner moves (state_same thread) grows inside tied' queue' thread';
+    stands = stands_still d programs total map m w v holds.dues stands t queue lives owner x.entry poster' posting' calls q' holds.dues made stands.bare.sound;
   }
 
-  tied_with : (posting' : Option post.Call) (calls : List Call) (q' : counted.Queue) → requests.Tied place (after_entry m x.entry) poster' (retirer_at d programs w queue) (reader_at d w queue) q' → QueueTied d programs (after_entry m x.entry) w queue ((thread_with posting' calls).posters queue) q'
-  tied_with posting' calls q' tied' = subst (λ (p : Poster). QueueTied d programs (after_entry m x.entry) w queue p q') (sym (poster_now posting' calls)) tied'
+  made_with : (posting' : Option post.Call) (calls : List Call) (q' : counted.Queue) (u : WorkQueue) (told : List Item) (dues' : List (List Due)) → ((other : Queue) → other ≢ queue → written_in other posting' calls ≡ []) → ((k : ℕ) → k ≢ t → dues_at dues' (suc k) ≡ dues_at holds.dues (suc k))
+      → Grows q q' → QueueTied d programs (after_entry m x.entry) w queue poster' q' → QueueIs d (written_in queue posting' calls) told u q' queue → ThreadStands d programs (suc t) (thread_with posting' calls) (dues_at dues' (suc t)) → Made posting' calls q' u told dues'
+  made_with posting' calls q' u told dues' silent_now others grows tied' is own = record { inside = inside; tied = tied'; stands_for = is; grows = grows; silent = λ other differ. call.silent s refl other differ; silent_now = silent_now; own = own; others = others }
+
+  dues_kept : (k : ℕ) → k ≢ t → dues_at holds.dues (suc k) ≡ dues_at holds.dues (suc k)
+  dues_kept k differ = refl
 
   -- GoesOn: the call is where it was
   stays : said ≡ None → is_written c ≡ false → Result
@@ -312,8 +271,8 @@ module _ (d : Lines) (programs : List (List Call)) (total : Bounds) (map : IsMap
         stage = record { writes = λ h. o.recorded; record_next = λ all waits. absurd (false≢true (sym more ∙ all)); register_next = λ recorded. absurd (false≢true (sym o.recorded ∙ recorded)) };
       } in
       conclude (Some c) None going (says_of None is)
-      (silent (thread_with (Some c) s.calls) q (grows_same q q refl) (moves_on (Some c)) (tied_with (Some c) s.calls q (goes_with None is))
-      (queue_with (thread_with (Some c) s.calls) q (accepted (Some c) items) (call.writes (thread_with (Some c) s.calls) refl) matched_old refl refl refl) (goes_on_stands c (dues_at holds.dues (suc t)) as_before owes_now))
+      (silent (Some c) s.calls q (made_with (Some c) s.calls q (v.queues queue) (w.posted queue) holds.dues (silent_on (Some c)) dues_kept (grows_refl q) (goes_with None is)
+      (queue_with (Some c) s.calls q (accepted (Some c) items) (call.writes (thread_with (Some c) s.calls) refl) matched_old refl refl refl) (goes_on_stands c (dues_at holds.dues (suc t)) as_before owes_now)))
 
   -- Registers: the call is over
   registers : said ≡ None → c.recorded ≡ true → poster'.stage ≡ Ready → Result
@@ -322,9 +281,9 @@ module _ (d : Lines) (programs : List (List Call)) (total : Bounds) (map : IsMap
       let nothing : accepted (Some c) items ≡ [] = ap (λ (b : Bool). if b then [] else take c.accepted items) recorded in
       let owed_nothing : post_dues queue items (Some c) ≡ [] = ap (λ (b : Bool). if b then [] else (if is_some c.refused then Accepting queue (take c.accepted items) ∷ [] else Posting queue items ∷ [])) recorded in
       conclude None None over (says_of None is)
-      (silent (thread_with None rest) q (grows_same q q refl) moves_off (tied_with None rest q (goes_with None is))
-      (queue_with (thread_with None rest) q [] (written_none queue (thread_with None rest) rest refl) (subst (λ (list : List Item). Match (IsItem d queue) q.requests ((v.queues queue).posted ++ list)) nothing matched_old) refl refl refl)
-      (ends_stands (dues_at holds.dues (suc t)) ready (owes_now ∙ ap (λ (ds : List Due). ds ++ flat_map due_by rest) owed_nothing)))
+      (silent None rest q (made_with None rest q (v.queues queue) (w.posted queue) holds.dues silent_off dues_kept (grows_refl q) (goes_with None is)
+      (queue_with None rest q [] (written_none queue (thread_with None rest) rest refl) (subst (λ (list : List Item). Match (IsItem d queue) q.requests ((v.queues queue).posted ++ list)) nothing matched_old) refl refl refl)
+      (ends_stands (dues_at holds.dues (suc t)) ready (owes_now ∙ ap (λ (ds : List Due). ds ++ flat_map due_by rest) owed_nothing))))
 
   -- Writes: one item more is accepted
   writes : (words : List ℕ) (id : ℕ) → said ≡ Some (counted.Wrote words id) → is_written c ≡ false → poster'.stage ≡ Ready → Result
@@ -353,9 +312,9 @@ module _ (d : Lines) (programs : List (List Call)) (total : Bounds) (map : IsMap
       } in
       let dues' : post_dues queue items (Some c) ≡ post_dues queue items (Some call') = rw (o.recorded, o.refused) refl in
       conclude (Some call') None going (says_of event is)
-      (silent (thread_with (Some call') s.calls) q' (grows_event place q (counted.Wrote words id) (omega (arith, tied.shape.order.taken, tied.shape.order.rung))) (moves_on (Some call')) (tied_with (Some call') s.calls q' g.1)
-      (queue_with (thread_with (Some call') s.calls) q' (take (c.accepted + 1) items) (call.writes (thread_with (Some call') s.calls) refl ∙ after') (subst (Match (IsItem d queue) q'.requests) (sym longer) pushed) refl refl refl)
-      (goes_on_stands call' (dues_at holds.dues (suc t)) one_more (owes_now ∙ ap (λ (ds : List Due). ds ++ flat_map due_by rest) dues')))
+      (silent (Some call') s.calls q' (made_with (Some call') s.calls q' (v.queues queue) (w.posted queue) holds.dues (silent_on (Some call')) dues_kept (grows_event place q (counted.Wrote words id) (omega (arith, tied.shape.order.taken, tied.shape.order.rung))) g.1
+      (queue_with (Some call') s.calls q' (take (c.accepted + 1) items) (call.writes (thread_with (Some call') s.calls) refl ∙ after') (subst (Match (IsItem d queue) q'.requests) (sym longer) pushed) refl refl refl)
+      (goes_on_stands call' (dues_at holds.dues (suc t)) one_more (owes_now ∙ ap (λ (ds : List Due). ds ++ flat_map due_by rest) dues'))))
 
   -- What is said of the abstract state
 
@@ -419,30 +378,20 @@ module _ (d : Lines) (programs : List (List Call)) (total : Bounds) (map : IsMap
     ends_is : ends place c next ≡ (c.accepted == 0)
     ends_is = ap (λ (k : post.Call). ends place c k) (next_is (Some (counted.Full head tail)) is) ∙ ends_refused place c call' o.recorded o.recorded refl
 
-    state_full : (thread : Thread) → MovesState d programs total m w v holds.dues stands t queue thread w.posted v (dues_after (refused_left ++ flat_map due_by rest))
-    state_full thread = record {
-      others = λ other differ. refl;
-      completions = λ cq. refl;
-      ends = λ qp. refl;
-      taken = λ qp. refl;
-      owed = refl;
-      declared = stands.declared;
-      long = length-set holds.dues t (refused_left ++ flat_map due_by rest) ∙ stands.long;
-      sane = makes.sane;
-      told = λ other differ. refl;
-      other_dues = dues_there what (Posting queue items) (flat_map due_by rest) (open_dues o);
-    }
-
-    goes_full : (thread : Thread) → MovesPost d programs total m w v holds.dues stands t queue thread w.posted → QueueTied d programs (after_entry m x.entry) w queue (thread.posters queue) q → QueueStands d programs (actors thread w.posted) v q queue
-        → ThreadStands d programs (suc t) thread (dues_at (dues_after (refused_left ++ flat_map due_by rest)) (suc t)) → Goes d programs total (after_entry m x.entry) (actors thread w.posted) r (Some (by (suc t) what))
-    goes_full thread moves tied' queue' thread' = (
+    goes_full : (posting' : Option post.Call) (calls : List Call) → Made posting' calls q (v.queues queue) (w.posted queue) (dues_after (refused_left ++ flat_map due_by rest)) → Goes d programs total (after_entry m x.entry) (actors (thread_with posting' calls) w.posted) r (Some (by (suc t) what))
+    goes_full posting' calls made = (
       may_turn what (Posting queue items) (flat_map due_by rest) (open_dues o) makes.legal (refl, omega (arith, o.more, posting.count)),
       record {
         dues = dues_after (refused_left ++ flat_map due_by rest);
         owed = owed_after what (Posting queue items) (flat_map due_by rest) (open_dues o);
-        stands = stands_now d programs total m w v holds.dues stands t queue thread w.posted map x.entry q v (dues_after (refused_left ++ flat_map due_by rest)) lives owner moves (state_full thread) (grows_same q q refl) inside tied' queue' thread';
+        stands = stands_still d programs total map m w v holds.dues stands t queue lives owner x.entry poster' posting' calls q (dues_after (refused_left ++ flat_map due_by rest)) made
+            (record { declared = stands.bare.sound.declared; long = length-set holds.dues t (refused_left ++ flat_map due_by rest) ∙ stands.bare.sound.long; sane = makes.sane });
       },
     )
+
+    abbrev made_full : (posting' : Option post.Call) (calls : List Call) → ((other : Queue) → other ≢ queue → written_in other posting' calls ≡ []) → QueueIs d (written_in queue posting' calls) (w.posted queue) (v.queues queue) q queue
+        → ThreadStands d programs (suc t) (thread_with posting' calls) (dues_at (dues_after (refused_left ++ flat_map due_by rest)) (suc t)) → Made posting' calls q (v.queues queue) (w.posted queue) (dues_after (refused_left ++ flat_map due_by rest))
+    made_full posting' calls silent_now = made_with posting' calls q (v.queues queue) (w.posted queue) (dues_after (refused_left ++ flat_map due_by rest)) silent_now (dues_there what (Posting queue items) (flat_map due_by rest) (open_dues o)) (grows_refl q) (goes_with (Some (counted.Full head tail)) is).1
 
     here : dues_at (dues_after (refused_left ++ flat_map due_by rest)) (suc t) ≡ refused_left ++ flat_map due_by rest
     here = dues_here what (Posting queue items) (flat_map due_by rest) (open_dues o)
@@ -451,9 +400,9 @@ module _ (d : Lines) (programs : List (List Call)) (total : Bounds) (map : IsMap
     refused_all none =
         let nothing : accepted (Some c) items ≡ [] = ap (λ (b : Bool). if b then [] else take c.accepted items) o.recorded ∙ ap (λ (k : ℕ). take k items) (eqb-true c.accepted 0 none) in
         conclude None (Some what) (call_is_over (ends_is ∙ none)) (says_of (Some (counted.Full head tail)) is)
-        (goes_full (thread_with None rest) moves_off (tied_with None rest q (goes_with (Some (counted.Full head tail)) is).1)
-        (queue_with (thread_with None rest) q [] (written_none queue (thread_with None rest) rest refl) (subst (λ (list : List Item). Match (IsItem d queue) q.requests ((v.queues queue).posted ++ list)) nothing matched_old) refl refl refl)
-        (ends_stands _ ready (here ∙ ap (λ (b : Bool). (if b then [] else Accepting queue (take c.accepted items) ∷ []) ++ flat_map due_by rest) none)))
+        (goes_full None rest (made_full None rest silent_off
+        (queue_with None rest q [] (written_none queue (thread_with None rest) rest refl) (subst (λ (list : List Item). Match (IsItem d queue) q.requests ((v.queues queue).posted ++ list)) nothing matched_old) refl refl refl)
+        (ends_stands _ ready (here ∙ ap (λ (b : Bool). (if b then [] else Accepting queue (take c.accepted items) ∷ []) ++ flat_map due_by rest) none))))
 
     refused_rest : (c.accepted == 0) ≡ false → Result
     refused_rest some' =
@@ -467,9 +416,9 @@ module _ (d : Lines) (programs : List (List Call)) (total : Bounds) (map : IsMap
         let before : accepted (Some c) items ≡ accepted (Some call') items = refl in
         let owes' : refused_left ≡ post_dues queue items (Some call') = rw (some', o.recorded) refl in
         conclude (Some call') (Some what) going (says_of (Some (counted.Full head tail)) is)
-        (goes_full (thread_with (Some call') s.calls) (moves_on (Some call')) (tied_with (Some call') s.calls q (goes_with (Some (counted.Full head tail)) is).1)
-        (queue_with (thread_with (Some call') s.calls) q (accepted (Some c) items) (call.writes (thread_with (Some call') s.calls) refl ∙ sym before) matched_old refl refl refl)
-        (goes_on_stands call' _ stopped (here ∙ ap (λ (ds : List Due). ds ++ flat_map due_by rest) owes')))
+        (goes_full (Some call') s.calls (made_full (Some call') s.calls (silent_on (Some call'))
+        (queue_with (Some call') s.calls q (accepted (Some c) items) (call.writes (thread_with (Some call') s.calls) refl ∙ sym before) matched_old refl refl refl)
+        (goes_on_stands call' _ stopped (here ∙ ap (λ (ds : List Due). ds ++ flat_map due_by rest) owes'))))
 
     refuses : Result
     refuses = elim (cases_Bool (c.accepted == 0)) [ inl none ↦ refused_all none | inr some' ↦ refused_rest some' ]
@@ -505,65 +454,35 @@ module _ (d : Lines) (programs : List (List Call)) (total : Bounds) (map : IsMap
     rung_ends : ends place c next ≡ not (is_send place)
     rung_ends = ap (λ (k : post.Call). ends place c k) (next_is (Some counted.Rang) is) ∙ ends_rung place c recorded' waits refl rung_some
 
-    queue_is : v'.queues queue ≡ rows.post (v.queues queue) rung_items
-    queue_is = put_queue_here v.queues queue (rows.post (v.queues queue) rung_items)
-
-    send_ends : (qp : ℕ) → (v'.queues (queues.Send qp)).ends ≡ (v.queues (queues.Send qp)).ends
-    send_ends qp = elim (tell_queue queue (queues.Send qp)) [
-      | inl same ↦ subst (λ (k : Queue). (v'.queues k).ends ≡ (v.queues k).ends) (sym same) (ap (λ (u : WorkQueue). u.ends) queue_is)
-      | inr differ ↦ ap (λ (u : WorkQueue). u.ends) (put_queue_there v.queues queue (queues.Send qp) (rows.post (v.queues queue) rung_items) differ)
-    ]
-
-    send_taken : (qp : ℕ) → (v'.queues (queues.Send qp)).taken ≡ (v.queues (queues.Send qp)).taken
-    send_taken qp = elim (tell_queue queue (queues.Send qp)) [
-      | inl same ↦ subst (λ (k : Queue). (v'.queues k).taken ≡ (v.queues k).taken) (sym same) (ap (λ (u : WorkQueue). u.taken) queue_is)
-      | inr differ ↦ ap (λ (u : WorkQueue). u.taken) (put_queue_there v.queues queue (queues.Send qp) (rows.post (v.queues queue) rung_items) differ)
-    ]
-
-    state_rung : (thread : Thread) → MovesState d programs total m w v holds.dues stands t queue thread told v' rung_dues
-    state_rung thread = record {
-      others = λ other differ. put_queue_there v.queues queue other (rows.post (v.queues queue) rung_items) differ;
-      completions = λ cq. refl;
-      ends = send_ends;
-      taken = send_taken;
-      owed = refl;
-      declared = record { pairs = stands.declared.pairs; pair_lives = stands.declared.pair_lives; completions_live = stands.declared.completions_live };
-      long = length-set holds.dues t (left_by head posts ++ flat_map due_by rest) ∙ stands.long;
-      sane = makes.sane;
-      told = λ other differ. put_queue_there w.posted queue other (w.posted queue ++ rung_items) differ;
-      other_dues = dues_there posts head (flat_map due_by rest) owes;
-    }
-
     matched_rung : Match (IsItem d queue) q.requests ((v.queues queue).posted ++ rung_items)
     matched_rung = subst (λ (list : List Item). Match (IsItem d queue) q.requests ((v.queues queue).posted ++ list)) (ap (λ (b : Bool). if b then [] else rung_items) waits) matched_old
 
-    queue_rung : (thread : Thread) → written_by queue thread thread.calls ≡ [] → QueueStands d programs (actors thread told) v' rang queue
-    queue_rung thread nothing =
-        let old = stands.queues queue lives in record {
-          posted = subst (λ (list : List Item). Match (IsItem d queue) q.requests list)
-              (sym (ap (λ (u : WorkQueue). u.posted ++ written programs (actors thread told) queue) queue_is ∙ ap (λ (list : List Item). ((v.queues queue).posted ++ rung_items) ++ list) (written_now thread told ∙ nothing) ∙ append_nil ((v.queues queue).posted ++ rung_items))) matched_rung;
-          rung = match_length (IsItem d queue) q.requests ((v.queues queue).posted ++ rung_items) matched_rung ∙ ap (λ (u : WorkQueue). length u.posted) (sym queue_is);
-          taken = ap (λ (u : WorkQueue). u.taken) queue_is ∙ old.taken;
-          retired = ap (λ (u : WorkQueue). u.retired) queue_is ∙ old.retired;
-          room = ap (λ (u : WorkQueue). u.room) queue_is ∙ old.room;
-          segments = ap (λ (u : WorkQueue). u.segments) queue_is ∙ old.segments;
-          told = put_queue_here w.posted queue (w.posted queue ++ rung_items) ∙ ap (λ (list : List Item). list ++ rung_items) old.told ∙ ap (λ (u : WorkQueue). u.posted) (sym queue_is);
+    queue_rung : (posting' : Option post.Call) (calls : List Call) → written_in queue posting' calls ≡ [] → QueueIs d (written_in queue posting' calls) (w.posted queue ++ rung_items) (rows.post (v.queues queue) rung_items) rang queue
+    queue_rung posting' calls nothing =
+        let old = stands.bare.state.queues queue lives in record {
+          posted = subst (λ (list : List Item). Match (IsItem d queue) q.requests list) (sym (ap (λ (list : List Item). ((v.queues queue).posted ++ rung_items) ++ list) nothing ∙ append_nil ((v.queues queue).posted ++ rung_items))) matched_rung;
+          rung = match_length (IsItem d queue) q.requests ((v.queues queue).posted ++ rung_items) matched_rung;
+          taken = old.taken;
+          retired = old.retired;
+          room = old.room;
+          segments = old.segments;
+          told = ap (λ (list : List Item). list ++ rung_items) old.told;
         }
 
-    moves_told : (thread : Thread) → MovesPost d programs total m w v holds.dues stands t queue thread w.posted → MovesPost d programs total m w v holds.dues stands t queue thread told
-    moves_told thread h = record { polls = h.polls; given = h.given; posters = h.posters; silent = h.silent; silent_now = h.silent_now }
-
-    goes_rung : (thread : Thread) → MovesPost d programs total m w v holds.dues stands t queue thread w.posted → QueueTied d programs (after_entry m x.entry) w queue (thread.posters queue) rang → written_by queue thread thread.calls ≡ []
-        → ThreadStands d programs (suc t) thread (dues_at rung_dues (suc t)) → Goes d programs total (after_entry m x.entry) (actors thread told) r (Some (by (suc t) posts))
-    goes_rung thread moves tied' nothing thread' = (
-      may_turn posts head (flat_map due_by rest) owes makes.legal answers,
-      record {
-        dues = rung_dues;
-        owed = owed_after posts head (flat_map due_by rest) owes;
-        stands = stands_now d programs total m w v holds.dues stands t queue thread told map x.entry rang v' rung_dues lives owner (moves_told thread moves) (state_rung thread)
-            (grows_event place q counted.Rang (omega (arith, tied.shape.order.taken, tied.shape.order.rung))) inside tied' (queue_rung thread nothing) thread';
-      },
-    )
+    goes_rung : (posting' : Option post.Call) (calls : List Call) → ((other : Queue) → other ≢ queue → written_in other posting' calls ≡ []) → written_in queue posting' calls ≡ [] → ThreadStands d programs (suc t) (thread_with posting' calls) (dues_at rung_dues (suc t))
+        → Goes d programs total (after_entry m x.entry) (actors (thread_with posting' calls) told) r (Some (by (suc t) posts))
+    goes_rung posting' calls silent_now nothing own =
+        let was = stands.bare.sound.declared in (
+          may_turn posts head (flat_map due_by rest) owes makes.legal answers,
+          record {
+            dues = rung_dues;
+            owed = owed_after posts head (flat_map due_by rest) owes;
+            stands = stands_now d programs total map m w v holds.dues stands t queue lives owner x.entry poster' posting' calls rang (rows.post (v.queues queue) rung_items) (w.posted queue ++ rung_items) rung_dues
+                (made_with posting' calls rang (rows.post (v.queues queue) rung_items) (w.posted queue ++ rung_items) rung_dues silent_now (dues_there posts head (flat_map due_by rest) owes)
+                (grows_event place q counted.Rang (omega (arith, tied.shape.order.taken, tied.shape.order.rung))) (goes_with (Some counted.Rang) is).1 (queue_rung posting' calls nothing) own) refl refl
+                (record { declared = record { pairs = was.pairs; pair_lives = was.pair_lives; completions_live = was.completions_live }; long = length-set holds.dues t (left_by head posts ++ flat_map due_by rest) ∙ stands.bare.sound.long; sane = makes.sane });
+          },
+        )
 
     here_rung : dues_at rung_dues (suc t) ≡ flat_map due_by rest
     here_rung = dues_here posts head (flat_map due_by rest) owes ∙ ap (λ (ds : List Due). ds ++ flat_map due_by rest) left
@@ -579,14 +498,14 @@ module _ (d : Lines) (programs : List (List Call)) (total : Bounds) (map : IsMap
           stage = record { writes = λ open_. absurd (false≢true (sym open_ ∙ all)); record_next = λ h never. absurd (false≢true (sym never)); register_next = λ h. ringing };
         } in
         conclude (Some recorded') (Some posts) going (says_of (Some counted.Rang) is)
-        (goes_rung (thread_with (Some recorded') s.calls) (moves_on (Some recorded')) (tied_with (Some recorded') s.calls rang (goes_with (Some counted.Rang) is).1) (call.writes (thread_with (Some recorded') s.calls) refl)
+        (goes_rung (Some recorded') s.calls (silent_on (Some recorded')) (call.writes (thread_with (Some recorded') s.calls) refl)
         (goes_on_stands recorded' _ rings here_rung))
 
     rung_receive : is_send place ≡ false → Result
     rung_receive receive =
         let ready : poster'.stage ≡ Ready = stage ∙ ap (λ (b : Bool). if b then Ringing else Ready) receive in
         conclude None (Some posts) (call_is_over (rung_ends ∙ ap not receive)) (says_of (Some counted.Rang) is)
-        (goes_rung (thread_with None rest) moves_off (tied_with None rest rang (goes_with (Some counted.Rang) is).1) (written_none queue (thread_with None rest) rest refl) (ends_stands _ ready here_rung))
+        (goes_rung None rest silent_off (written_none queue (thread_with None rest) rest refl) (ends_stands _ ready here_rung))
 
     rings : Result
     rings = elim (cases_Bool (is_send place)) [ inl send ↦ rung_send send | inr receive ↦ rung_receive receive ]
@@ -617,9 +536,9 @@ module _ (d : Lines) (programs : List (List Call)) (total : Bounds) (map : IsMap
   owes_first : (head : Due) (more : List Due) → dues_at holds.dues (suc t) ≡ head ∷ more → proper.Owes holds.dues t head more
   owes_first head more is = record { low = owes_at t holds.dues head more is; is = is }
 
-  can_post : c.recorded ≡ false → CanPost d (length d.qps) total v holds.dues t rung_items (flat_map due_by rest) stands.sane queue
+  can_post : c.recorded ≡ false → CanPost d (length d.qps) total v holds.dues t rung_items (flat_map due_by rest) stands.bare.sound.sane queue
   can_post waits =
-      let old = stands.queues queue lives in
+      let old = stands.bare.state.queues queue lives in
       let some_long : length rung_items ≡ c.accepted = length-take c.accepted items ∙ min_is c.accepted (length items) (omega (arith, posting.some, posting.count)) in
       record {
         room = omega (arith, long_now waits, some_long, tied.shape.order.bound, old.retired, old.room);
@@ -629,15 +548,15 @@ module _ (d : Lines) (programs : List (List Call)) (total : Bounds) (map : IsMap
   steps : PostSteps
   steps = record {
     full = λ head tail o refuse.
-        let old = stands.queues queue lives in
-        full_goes d (length d.qps) total v holds.dues t items (flat_map due_by rest) stands.sane queue c.accepted head tail lives (owes_first (Posting queue items) (flat_map due_by rest) (open_dues o)) (record {
+        let old = stands.bare.state.queues queue lives in
+        full_goes d (length d.qps) total v holds.dues t items (flat_map due_by rest) stands.bare.sound.sane queue c.accepted head tail lives (owes_first (Posting queue items) (flat_map due_by rest) (open_dues o)) (record {
           head_is = refuse.head_is ∙ long_now o.recorded;
           tail_is = refuse.tail_is ∙ sym old.retired;
           full = omega (arith, refuse.head_is, refuse.tail_is, refuse.full, old.room);
         });
     whole = λ waits whole owes.
-        whole_goes d (length d.qps) total v holds.dues t rung_items (flat_map due_by rest) stands.sane queue lives (owes_first (Posting queue rung_items) (flat_map due_by rest) (owes ∙ ap (λ (list : List Item). Posting queue list ∷ flat_map due_by rest) (sym whole))) (can_post waits);
-    part = λ waits owes. part_goes d (length d.qps) total v holds.dues t rung_items (flat_map due_by rest) stands.sane queue lives (owes_first (Accepting queue rung_items) (flat_map due_by rest) owes) (can_post waits);
+        whole_goes d (length d.qps) total v holds.dues t rung_items (flat_map due_by rest) stands.bare.sound.sane queue lives (owes_first (Posting queue rung_items) (flat_map due_by rest) (owes ∙ ap (λ (list : List Item). Posting queue list ∷ flat_map due_by rest) (sym whole))) (can_post waits);
+    part = λ waits owes. part_goes d (length d.qps) total v holds.dues t rung_items (flat_map due_by rest) stands.bare.sound.sane queue lives (owes_first (Accepting queue rung_items) (flat_map due_by rest) owes) (can_post waits);
   }
 
   -- an operation of a call to post keeps what holds

@@ -1,21 +1,15 @@
 -- All that stands after an operation of a call to post, from what it made of its own queue, of the call and of the abstract state.
-use Rattle.std.proofs.Common.{◌≡◌, ◌≢◌, ◌⊎◌, ℕ, zero, suc, ◌<◌, ◌≤◌, inl, inr, refl, sym, ap, subst, ◌∙◌, true, false, Bool, List, [], ◌∷◌, ◌++◌, length, Option, None, Some, slice_index_or, arith}
-use Rattle.std.proofs.lemmas.Bool.Decides.{eqb_tells}
+use Rattle.std.proofs.Common.{if◌then◌else◌, Option, ◌≡◌, ◌≢◌, ℕ, suc, refl, sym, ap, subst, ◌∙◌, true, List, []}
 use Rattle.bus_core.specs.declared.operation.BusEntry.{BusEntry}
 use Rattle.bus_core.specs.Trace.{Memory, after_entry}
 use Rattle.verbs_types.specs.declared.call.Call.{Call}
-use Rattle.verbs_types.specs.declared.completion.Completion.{Completion}
 use Rattle.verbs_types.specs.declared.completion.Queue.{Queue}
 use Rattle.verbs_types.specs.declared.completion.Queue.TheVariants as queues
 use Rattle.verbs_types.specs.declared.declaration.Lines.{Lines}
 use Rattle.verbs_types.specs.declared.request.Item.{Item}
-use Rattle.verbs_types.specs.declared.state.Act.{Act}
-use Rattle.verbs_types.specs.declared.state.Act.TheVariants.{Complete}
 use Rattle.verbs_rules.specs.Answered.{Due}
 use Rattle.verbs_rules.specs.Family.{put}
 use Rattle.verbs_rules.specs.Same.{same_queue}
-use Rattle.verbs_rules.specs.State.{Verbs, WorkQueue}
-use Rattle.cqe_format.specs.declared.completion.Cqe.{Cqe}
 use Rattle.counted_ring.specs.Device.{WqReader}
 use Rattle.counted_ring.specs.Law.{fresh_finder, fresh_device}
 use Rattle.counted_ring.specs.Place as place_of
@@ -26,38 +20,59 @@ use Rattle.counted_ring.proofs.Tied as requests
 use Rattle.object_places.specs.Objects.{Object, Completions, Sends, Receives, Lives, touches}
 use Rattle.object_places.specs.Places.{qp_line}
 use Rattle.provider_poll.specs.Rule.{PollRule}
-use Rattle.device_engine.specs.State.{AdapterRule, AdapterAt, Looking, Recording, Reading, Publishing, Ending, send_cq}
 use Rattle.actor_rules.specs.Owners.{poster_of, poller_of}
 use Rattle.actor_rules.specs.Thread.{Thread, queue_place}
 use Rattle.actor_rules.specs.Actors.{Actors}
 use Rattle.actor_rules.specs.Dues.{dues_at}
 use Rattle.actor_rules.specs.Family.{put_number}
 use Rattle.actor_rules.specs.Polling.{place_in}
-use Rattle.verbs_rules.specs.Sane.{Bounds, Sane}
-use Rattle.actor_rules.proofs.Frame.{SameAt, frame}
-use Rattle.actor_rules.proofs.Growing.{Grows, grows_same, completion_kept}
-use Rattle.actor_rules.proofs.Matching.{Match}
-use Rattle.actor_rules.proofs.Objects.{Lists, IsTied, poll_side, poster_side, retirer_side, retirer_in}
-use Rattle.actor_rules.proofs.Queues.{QueueLives, QueueStands, IsItem, written, written_by}
-use Rattle.actor_rules.proofs.Completions.{CompletionsStand}
-use Rattle.actor_rules.proofs.Adapter.{AdapterStands, AdapterStandsAt}
-use Rattle.actor_rules.proofs.Threads.{ThreadStands}
-use Rattle.actor_rules.proofs.Threading.{put_here, put_there, put_keeps, put_all}
-use Rattle.actor_rules.proofs.Holding.{AsDeclared, Stands, IsMapped}
-use Rattle.actor_rules.proofs.PostStands.{object_of, tell_queue, put_queue_here, put_queue_there, completions_kept}
+use Rattle.verbs_rules.specs.Sane.{Bounds}
+use Rattle.verbs_rules.specs.State.{WorkQueue, Verbs}
+use Rattle.device_engine.specs.State.{send_cq}
+use Rattle.actor_rules.proofs.View.{View, view, seen_kept, seen_put, post_written, poll_given, written_in}
+use Rattle.actor_rules.proofs.Objects.{Lists, sides, TiedIn, IsTied, poster_side, retirer_in}
+use Rattle.verbs_laws.proofs.Sameness.{same_queue-true}
+use Rattle.provider_post.specs.declared.call.Call as post
+use Rattle.actor_rules.proofs.Families.{put_same}
+use Rattle.actor_rules.proofs.PerQueue.{queue_tells, queue_here, queue_there, queue_by, queue_cases}
+use Rattle.actor_rules.proofs.Queues.{QueueLives, QueueIs, written_by}
+use Rattle.actor_rules.proofs.Threads.{ThreadStands, threads_now}
+use Rattle.actor_rules.proofs.Holding.{IsSound, Stands, StandsIn, IsMapped}
+use Rattle.actor_rules.proofs.Frame.{frame_in}
+use Rattle.actor_rules.proofs.Growing.{Grows, grows_refl}
+use Rattle.actor_rules.proofs.Kept.{completions_kept, work_kept}
+
+-- what posts on a work queue of a living pair is an object
+abbrev pub object_of : Queue → Object
+object_of (queues.Send qp) = Sends qp
+object_of (queues.Recv qp) = Receives qp
+object_of (queues.Shared srq) = Receives srq
 
 -- the retirer and the adapter's side of a work queue; no receive is taken or retired yet
+abbrev pub retirer_for : Lines → (ℕ → PollRule) → Queue → Retirer
+retirer_for d polls (queues.Send qp) = retirer_in (polls (send_cq d qp)).retirers (place_in d (send_cq d qp) qp)
+retirer_for d polls _ = fresh_finder.retirer
+
+abbrev pub reader_for : Lines → (ℕ → WqReader) → Queue → WqReader
+reader_for d readers (queues.Send qp) = readers qp
+reader_for d readers (queues.Recv qp) = fresh_device (qp_line d qp).start
+reader_for d readers (queues.Shared srq) = fresh_device 0
+
+abbrev pub QueueTiedIn : Lines → Memory → View → Queue → Poster → counted.Queue → Type 0
+QueueTiedIn d m s queue poster q = requests.Tied (queue_place d queue) m poster (retirer_for d s.polls queue) (reader_for d s.readers queue) q
+
 abbrev pub retirer_at : Lines → List (List Call) → Actors → Queue → Retirer
-retirer_at d programs w (queues.Send qp) = retirer_side d programs w qp
-retirer_at d programs w _ = fresh_finder.retirer
+retirer_at d programs w queue = retirer_for d (view programs w).polls queue
 
 abbrev pub reader_at : Lines → Actors → Queue → WqReader
-reader_at d w (queues.Send qp) = w.adapter.readers qp
-reader_at d w (queues.Recv qp) = fresh_device (qp_line d qp).start
-reader_at d w (queues.Shared srq) = fresh_device 0
+reader_at d w queue = reader_for d w.adapter.readers queue
 
 abbrev pub QueueTied : Lines → List (List Call) → Memory → Actors → Queue → Poster → counted.Queue → Type 0
-QueueTied d programs m w queue poster q = requests.Tied (queue_place d queue) m poster (retirer_at d programs w queue) (reader_at d w queue) q
+QueueTied d programs m w queue poster q = QueueTiedIn d m (view programs w) queue poster q
+
+-- a thread whose call to post has come so far, with the poster of its queue
+abbrev pub posts_on : Thread → Queue → Poster → Option post.Call → List Call → Thread
+posts_on t queue poster posting calls = record { calls = calls; posting = posting; given = t.given; posters = put same_queue t.posters queue poster; polls = t.polls; ended = t.ended }
 
 module _ (d : Lines) (programs : List (List Call)) where
   pub queue_tied : (queue : Queue) (m : Memory) (w : Actors) (l : Lists) → QueueLives d queue → ((o : Object) → Lives d o → IsTied d programs m w l o) → QueueTied d programs m w queue (poster_side programs w queue) (l.queues queue)
@@ -65,10 +80,10 @@ module _ (d : Lines) (programs : List (List Call)) where
   queue_tied (queues.Recv qp) m w l lives all = all (Receives qp) lives
   queue_tied (queues.Shared srq) m w l lives all = absurd lives
 
-  object_tied : (queue : Queue) (m : Memory) (w : Actors) (l : Lists) → QueueLives d queue → QueueTied d programs m w queue (poster_side programs w queue) (l.queues queue) → IsTied d programs m w l (object_of queue)
-  object_tied (queues.Send qp) m w l lives t = t
-  object_tied (queues.Recv qp) m w l lives t = t
-  object_tied (queues.Shared srq) m w l lives t = absurd lives
+  object_tied : (queue : Queue) (m : Memory) (s : View) (l : Lists) → QueueLives d queue → QueueTiedIn d m s queue (s.posters queue) (l.queues queue) → TiedIn d m s l (object_of queue)
+  object_tied (queues.Send qp) m s l lives t = t
+  object_tied (queues.Recv qp) m s l lives t = t
+  object_tied (queues.Shared srq) m s l lives t = absurd lives
 
   pub object_lives : (queue : Queue) → QueueLives d queue → Lives d (object_of queue)
   object_lives (queues.Send qp) lives = lives
@@ -85,156 +100,100 @@ module _ (d : Lines) (programs : List (List Call)) where
   touches_queue (queues.Recv qp) a lives h = h
   touches_queue (queues.Shared srq) a lives h = absurd lives
 
-  -- the adapter stands as before where what it sees is as before
-  adapter_work : (l l' : Lists) (v v' : Verbs) (s : AdapterRule) → ((qp : ℕ) → Grows (l.queues (queues.Send qp)) (l'.queues (queues.Send qp))) → v'.owed ≡ v.owed → (work : AdapterAt) → AdapterStandsAt d l v s work → AdapterStandsAt d l' v' s work
-  adapter_work l l' v v' s grows owed Looking h = record { lives = h.lives; idle = owed ∙ h.idle }
-  adapter_work l l' v v' s grows owed Recording h = record { lives = h.lives; idle = owed ∙ h.idle }
-  adapter_work l l' v v' s grows owed Reading h = record { visits = record { lives = h.visits.lives; idle = owed ∙ h.visits.idle }; sends = h.sends; ready = h.ready }
-  adapter_work l l' v v' s grows owed (Publishing cq c) h = record {
-    lives = h.lives;
-    queue = h.queue;
-    unpolled = h.unpolled;
-    owed = owed ∙ h.owed;
-    spells = completion_kept l l' c h.unpolled (grows h.unpolled.completion.qp) h.spells;
-    pair = h.pair;
-    number = h.number;
-  }
-  adapter_work l l' v v' s grows owed Ending h = owed ∙ h
-
-  pub adapter_kept : (l l' : Lists) (v v' : Verbs) (s : AdapterRule) → ((qp : ℕ) → Grows (l.queues (queues.Send qp)) (l'.queues (queues.Send qp))) → v'.owed ≡ v.owed → ((qp : ℕ) → (v'.queues (queues.Send qp)).taken ≡ (v.queues (queues.Send qp)).taken) → AdapterStands d l v s → AdapterStands d l' v' s
-  adapter_kept l l' v v' s grows owed taken h = record { taken = λ qp lives. h.taken qp lives ∙ sym (taken qp); work = adapter_work l l' v v' s grows owed s.at_work h.work }
-
-  module _ (total : Bounds) (m : Memory) (w : Actors) (v : Verbs) (dues : List (List Due)) (stands : Stands d programs total m w v dues)
-      (t : ℕ) (queue : Queue) (thread : Thread) (posted : Queue → List Item) where
+  module _ (total : Bounds) (map : IsMapped d) (m : Memory) (w : Actors) (v : Verbs) (dues : List (List Due)) (stands : Stands d programs total m w v dues)
+      (t : ℕ) (queue : Queue) (lives : QueueLives d queue) (owner : poster_of programs queue ≡ suc t) (e : BusEntry)
+      (poster : Poster) (posting : Option post.Call) (calls : List Call) (q : counted.Queue) where
     abbrev old : Thread
     old = w.threads (suc t)
 
+    abbrev thread : Thread
+    thread = posts_on old queue poster posting calls
+
     -- all actors, where this thread is as it is now, and this was posted
-    abbrev pub now : Actors
-    now = record { adapter = w.adapter; threads = put_number w.threads (suc t) thread; posted = posted }
+    abbrev pub now : (Queue → List Item) → Actors
+    now posted = record { adapter = w.adapter; threads = put_number w.threads (suc t) thread; posted = posted }
 
-    -- what the operation moved of its thread: the side that posts on the queue, and the call
-    pub record MovesPost : Type 0 where
-      pub polls : thread.polls ≡ old.polls
-      pub given : thread.given ≡ old.given
-      pub posters : (other : Queue) → other ≢ queue → thread.posters other ≡ old.posters other
+    -- What the operation made: of the words and the queue that they stand for, where the state's queue is this and this is told, and of its thread.
+    pub record Posts (u : WorkQueue) (told : List Item) (dues' : List (List Due)) : Type 0 where
+      pub inside : touches d (object_of queue) e.addr ≡ true
+      pub tied : QueueTied d programs (after_entry m e) w queue poster q
+      pub stands_for : QueueIs d (written_in queue posting calls) told u q queue
+      pub grows : Grows (stands.lists.queues queue) q
       pub silent : (other : Queue) → other ≢ queue → written_by other old old.calls ≡ []
-      pub silent_now : (other : Queue) → other ≢ queue → written_by other thread thread.calls ≡ []
+      pub silent_now : (other : Queue) → other ≢ queue → written_in other posting calls ≡ []
+      pub own : ThreadStands d programs (suc t) thread (dues_at dues' (suc t))
+      pub others : (k : ℕ) → k ≢ t → dues_at dues' (suc k) ≡ dues_at dues (suc k)
 
-    -- what it moved of the abstract state: the queue that it posts on, and what its thread owes
-    pub record MovesState (v' : Verbs) (dues' : List (List Due)) : Type 0 where
-      pub others : (other : Queue) → other ≢ queue → v'.queues other ≡ v.queues other
-      pub completions : (cq : ℕ) → v'.completions cq ≡ v.completions cq
-      pub ends : (qp : ℕ) → (v'.queues (queues.Send qp)).ends ≡ (v.queues (queues.Send qp)).ends
-      pub taken : (qp : ℕ) → (v'.queues (queues.Send qp)).taken ≡ (v.queues (queues.Send qp)).taken
-      pub owed : v'.owed ≡ v.owed
-      pub declared : AsDeclared d v'
-      pub long : length dues' ≡ length programs
-      pub sane : Sane (length d.qps) total v' dues'
-      pub told : (other : Queue) → other ≢ queue → posted other ≡ w.posted other
-      pub other_dues : (k : ℕ) → k ≢ t → dues_at dues' (suc k) ≡ dues_at dues (suc k)
+    abbrev m' : Memory
+    m' = after_entry m e
 
-    module _ (map : IsMapped d) (e : BusEntry) (q : counted.Queue) (v' : Verbs) (dues' : List (List Due)) (lives : QueueLives d queue) (owner : poster_of programs queue ≡ suc t) (moves : MovesPost) (state : MovesState v' dues')
-        (grows : Grows (stands.lists.queues queue) q) where
-      abbrev m' : Memory
-      m' = after_entry m e
+    abbrev l : Lists
+    l = stands.lists
 
-      abbrev l : Lists
-      l = stands.lists
+    abbrev l' : Lists
+    l' = record { completions = l.completions; queues = put same_queue l.queues queue q }
 
-      abbrev l' : Lists
-      l' = record { completions = l.completions; queues = put same_queue l.queues queue q }
+    abbrev s : View
+    s = view programs w
 
-      poll_same : (cq : ℕ) → poll_side programs now cq ≡ poll_side programs w cq
-      poll_same cq = put_keeps w.threads (suc t) thread (λ (s : Thread). s.polls cq) (ap (λ (f : ℕ → PollRule). f cq) moves.polls) (poller_of programs cq)
+    module _ (u : WorkQueue) (told : List Item) (dues' : List (List Due)) (made : Posts u told dues') where
+      -- one queue's side has moved, and what is written and told there
+      abbrev s' : View
+      s' = record s { posters = put same_queue s.posters queue poster; written = put same_queue s.written queue (written_in queue posting calls); told = put same_queue w.posted queue told }
 
-      poster_other : (other : Queue) → other ≢ queue → poster_side programs now other ≡ poster_side programs w other
-      poster_other other differ = put_keeps w.threads (suc t) thread (λ (s : Thread). s.posters other) (moves.posters other differ) (poster_of programs other)
+      abbrev v' : Verbs
+      v' = record v { queues = put same_queue v.queues queue u }
 
-      poster_here : poster_side programs now queue ≡ thread.posters queue
-      poster_here = ap (λ (n : ℕ). (now.threads n).posters queue) owner ∙ ap (λ (s : Thread). s.posters queue) (put_here w.threads (suc t) thread)
+      view_now : view programs (now s'.told) ≡ s'
+      view_now = λ i. record {
+        posters = seen_put (poster_of programs) (λ k (x : Thread). x.posters k) w.threads (suc t) thread same_queue queue poster (λ k. queue_tells k queue) owner (queue_here old.posters queue poster) (λ k differ. queue_there old.posters queue poster k differ) i;
+        written = seen_put (poster_of programs) post_written w.threads (suc t) thread same_queue queue (written_in queue posting calls) (λ k. queue_tells k queue) owner refl (λ k differ. made.silent_now k differ ∙ sym (made.silent k differ)) i;
+        told = s'.told;
+        polls = seen_kept (poller_of programs) (λ k (x : Thread). x.polls k) w.threads (suc t) thread (λ k. refl) i;
+        given = seen_kept (poller_of programs) poll_given w.threads (suc t) thread (λ k. refl) i;
+        readers = w.adapter.readers;
+        devices = w.adapter.queues;
+        taken = w.adapter.taken;
+      }
 
-      retirer_same : (qp : ℕ) → retirer_side d programs now qp ≡ retirer_side d programs w qp
-      retirer_same qp = ap (λ (s : PollRule). retirer_in s.retirers (place_in d (send_cq d qp) qp)) (poll_same (send_cq d qp))
-
-      same_sides : (p : Object) → p ≢ object_of queue → SameAt d programs w now l l' p
-      same_sides (Completions cq) differ = (refl, ap (λ (s : PollRule). s.host) (poll_same cq), refl)
-      same_sides (Sends qp) differ =
+      other_sides : (p : Object) → Lives d p → p ≢ object_of queue → sides d s' l' p ≡ sides d s l p
+      other_sides (Completions cq) alive differ = refl
+      other_sides (Sends qp) alive differ =
           let apart : queues.Send qp ≢ queue = λ same. differ (ap object_of same) in
-          (poster_other (queues.Send qp) apart, retirer_same qp, refl, put_queue_there l.queues queue (queues.Send qp) q apart)
-      same_sides (Receives qp) differ =
+          λ i. record (sides d s l (Sends qp)) { poster = queue_there s.posters queue poster (queues.Send qp) apart i; words = queue_there l.queues queue q (queues.Send qp) apart i }
+      other_sides (Receives qp) alive differ =
           let apart : queues.Recv qp ≢ queue = λ same. differ (ap object_of same) in
-          (poster_other (queues.Recv qp) apart, put_queue_there l.queues queue (queues.Recv qp) q apart)
-
-      retirer_now : (other : Queue) → retirer_at d programs now other ≡ retirer_at d programs w other
-      retirer_now (queues.Send qp) = retirer_same qp
-      retirer_now (queues.Recv qp) = refl
-      retirer_now (queues.Shared srq) = refl
-
-      reader_now : (other : Queue) → reader_at d now other ≡ reader_at d w other
-      reader_now (queues.Send qp) = refl
-      reader_now (queues.Recv qp) = refl
-      reader_now (queues.Shared srq) = refl
-
-      tied_now : QueueTied d programs m' w queue (thread.posters queue) q → QueueTied d programs m' now queue (poster_side programs now queue) (l'.queues queue)
-      tied_now tied =
-          let place = queue_place d queue in
-          let a = subst (λ (s : Poster). requests.Tied place m' s (retirer_at d programs w queue) (reader_at d w queue) q) (sym poster_here) tied in
-          let b = subst (λ (r : Retirer). requests.Tied place m' (poster_side programs now queue) r (reader_at d w queue) q) (sym (retirer_now queue)) a in
-          let c = subst (λ (s : WqReader). requests.Tied place m' (poster_side programs now queue) (retirer_at d programs now queue) s q) (sym (reader_now queue)) b in
-          subst (λ (x : counted.Queue). requests.Tied place m' (poster_side programs now queue) (retirer_at d programs now queue) (reader_at d now queue) x) (sym (put_queue_here l.queues queue q)) c
+          λ i. record (sides d s l (Receives qp)) { poster = queue_there s.posters queue poster (queues.Recv qp) apart i; words = queue_there l.queues queue q (queues.Recv qp) apart i }
 
       grows_all : (qp : ℕ) → Grows (l.queues (queues.Send qp)) (l'.queues (queues.Send qp))
-      grows_all qp = elim (tell_queue queue (queues.Send qp)) [
-        | inl same ↦ subst (λ (x : Queue). Grows (l.queues x) (l'.queues x)) (sym same) (subst (λ (x : counted.Queue). Grows (l.queues queue) x) (sym (put_queue_here l.queues queue q)) grows)
-        | inr differ ↦ grows_same (l.queues (queues.Send qp)) (l'.queues (queues.Send qp)) (put_queue_there l.queues queue (queues.Send qp) q differ)
-      ]
+      grows_all qp = queue_cases (λ k x. Grows (l.queues k) x) l.queues queue q made.grows (λ other differ. grows_refl (l.queues other)) (queues.Send qp)
 
-      written_other : (other : Queue) → other ≢ queue → written programs now other ≡ written programs w other
-      written_other other differ = put_keeps w.threads (suc t) thread (λ (s : Thread). written_by other s s.calls) (moves.silent_now other differ ∙ sym (moves.silent other differ)) (poster_of programs other)
+      -- what the adapter takes, and what a poll has told, stays
+      pub stands_now : u.ends ≡ (v.queues queue).ends → u.taken ≡ (v.queues queue).taken → IsSound d programs total v' dues' → Stands d programs total m' (now s'.told) v' dues'
+      stands_now ends taken sound =
+          let b = stands.bare in
+          let taken_all : (qp : ℕ) → (v'.queues (queues.Send qp)).taken ≡ (v.queues (queues.Send qp)).taken = λ qp. queue_cases (λ k x. x.taken ≡ (v.queues k).taken) v.queues queue u taken (λ k differ. refl) (queues.Send qp) in
+          let ends_all : (qp : ℕ) → (v'.queues (queues.Send qp)).ends ≡ (v.queues (queues.Send qp)).ends = λ qp. queue_cases (λ k x. x.ends ≡ (v.queues k).ends) v.queues queue u ends (λ k differ. refl) (queues.Send qp) in
+          subst (λ (x : View). StandsIn d programs total m' x (now s'.told).threads w.adapter v' dues') (sym view_now) (record {
+            lists = l';
+            bare = record {
+              objects = frame_in d map m e s s' l l' b.objects (object_of queue) (object_lives queue lives) made.inside other_sides
+                  (object_tied queue m' s' l' lives (coe 1 0 (i. QueueTiedIn d m' s queue (queue_here s.posters queue poster i) (queue_here l.queues queue q i)) made.tied));
+              state = record {
+                queues = queue_by (λ k b. QueueLives d k → QueueIs d (if b then written_in queue posting calls else s.written k) (if b then told else w.posted k) (if b then u else v.queues k) (if b then q else l.queues k) k) queue (λ alive. made.stands_for) (λ k differ alive. b.state.queues k alive);
+                completions = λ cq alive. completions_kept d l l' grows_all (s.polls cq) (s.given cq) v v' cq refl refl (λ qp live home. ends_all qp) (b.state.completions cq alive);
+                taken = λ qp alive. b.state.taken qp alive ∙ sym (taken_all qp);
+              };
+              threads = threads_now d programs w.threads t thread dues dues' made.others made.own b.threads;
+              sound = sound;
+            };
+            work = work_kept d l l' grows_all v v' w.adapter w.adapter.at_work refl stands.work;
+          })
 
-      other_stands : (other : Queue) → other ≢ queue → QueueStands d programs w v (l.queues other) other → QueueStands d programs now v' (l'.queues other) other
-      other_stands other differ h =
-          let same = state.others other differ in
-          let kept : QueueStands d programs now v' (l.queues other) other = record {
-            posted = subst (λ (items : List Item). Match (IsItem d other) (l.queues other).requests items) (sym (ap (λ (u : WorkQueue). u.posted ++ written programs now other) same ∙ ap (λ (items : List Item). (v.queues other).posted ++ items) (written_other other differ))) h.posted;
-            rung = h.rung ∙ ap (λ (u : WorkQueue). length u.posted) (sym same);
-            taken = ap (λ (u : WorkQueue). u.taken) same ∙ h.taken;
-            retired = ap (λ (u : WorkQueue). u.retired) same ∙ h.retired;
-            room = ap (λ (u : WorkQueue). u.room) same ∙ h.room;
-            segments = ap (λ (u : WorkQueue). u.segments) same ∙ h.segments;
-            told = state.told other differ ∙ h.told ∙ ap (λ (u : WorkQueue). u.posted) (sym same);
-          } in
-          subst (λ (x : counted.Queue). QueueStands d programs now v' x other) (sym (put_queue_there l.queues queue other q differ)) kept
-
-      queues_now : QueueStands d programs now v' q queue → (other : Queue) → QueueLives d other → QueueStands d programs now v' (l'.queues other) other
-      queues_now here other alive = elim (tell_queue queue other) [
-        | inl same ↦ subst (λ (x : Queue). QueueStands d programs now v' (l'.queues x) x) (sym same) (subst (λ (x : counted.Queue). QueueStands d programs now v' x queue) (sym (put_queue_here l.queues queue q)) here)
-        | inr differ ↦ other_stands other differ (stands.queues other alive)
-      ]
-
-      completions_now : (cq : ℕ) → Lives d (Completions cq) → CompletionsStand d l' (poll_side programs now cq) (now.threads (poller_of programs cq)).given v' cq
-      completions_now cq alive =
-          let kept = completions_kept d l l' (poll_side programs w cq) (w.threads (poller_of programs cq)).given v v' cq grows_all refl (state.completions cq) state.ends (stands.completions cq alive) in
-          subst (λ (given : List Completion). CompletionsStand d l' (poll_side programs now cq) given v' cq) (sym (put_keeps w.threads (suc t) thread (λ (s : Thread). s.given) moves.given (poller_of programs cq)))
-          (subst (λ (p : PollRule). CompletionsStand d l' p (w.threads (poller_of programs cq)).given v' cq) (sym (poll_same cq)) kept)
-
-      threads_now : ThreadStands d programs (suc t) thread (dues_at dues' (suc t)) → (k : ℕ) → ThreadStands d programs (suc k) (now.threads (suc k)) (dues_at dues' (suc k))
-      threads_now here k = elim (eqb_tells k t) [
-        | inl same ↦ subst (λ (n : ℕ). ThreadStands d programs (suc n) (now.threads (suc n)) (dues_at dues' (suc n))) (sym same.1) (subst (λ (s : Thread). ThreadStands d programs (suc t) s (dues_at dues' (suc t))) (sym (put_here w.threads (suc t) thread)) here)
-        | inr differ ↦ subst (λ (s : Thread). ThreadStands d programs (suc k) s (dues_at dues' (suc k))) (sym (put_there w.threads (suc t) thread (suc k) (λ same. differ.1 (omega (arith, same)))))
-            (subst (λ (ds : List Due). ThreadStands d programs (suc k) (w.threads (suc k)) ds) (sym (state.other_dues k differ.1)) (stands.threads k))
-      ]
-
-      pub stands_now : touches d (object_of queue) e.addr ≡ true → QueueTied d programs m' w queue (thread.posters queue) q → QueueStands d programs now v' q queue → ThreadStands d programs (suc t) thread (dues_at dues' (suc t)) → Stands d programs total m' now v' dues'
-      stands_now inside tied queue_stands thread_stands = record {
-        lists = l';
-        objects = frame d programs map m e w now l l' (object_of queue) (object_lives queue lives) inside same_sides stands.objects (object_tied queue m' now l' lives (tied_now tied));
-        queues = queues_now queue_stands;
-        completions = completions_now;
-        adapter = adapter_kept l l' v v' w.adapter grows_all state.owed state.taken stands.adapter;
-        threads = threads_now thread_stands;
-        declared = state.declared;
-        long = state.long;
-        sane = state.sane;
-      }
+    -- an operation that leaves the abstract state, and of which nothing is told
+    pub stands_still : (dues' : List (List Due)) → Posts (v.queues queue) (w.posted queue) dues' → IsSound d programs total v dues' → Stands d programs total m' (now w.posted) v dues'
+    stands_still dues' made sound =
+        let queues_same : put same_queue v.queues queue (v.queues queue) ≡ v.queues = put_same same_queue v.queues queue (v.queues queue) (λ j same. same_queue-true j queue same) refl in
+        let told_same : put same_queue w.posted queue (w.posted queue) ≡ w.posted = put_same same_queue w.posted queue (w.posted queue) (λ j same. same_queue-true j queue same) refl in
+        coe 0 1 (i. Stands d programs total m' (now (told_same i)) (record v { queues = queues_same i }) dues')
+        (stands_now (v.queues queue) (w.posted queue) dues' made refl refl (coe 1 0 (i. IsSound d programs total (record v { queues = queues_same i }) dues') sound))

@@ -1,5 +1,5 @@
 -- What an operation of a call to post comes to, by how far the call is.
-use Rattle.std.proofs.Common.{◌≡◌, ℕ, ◌<◌, refl, sym, ap, subst, ◌∙◌, inl, inr, Bool, true, false, if◌then◌else◌, List, [], ◌∷◌, ◌++◌, length, Option, None, Some}
+use Rattle.std.proofs.Common.{◌≡◌, ℕ, refl, sym, subst, inl, inr, Bool, true, false, if◌then◌else◌, List, [], Option, None, Some}
 use Rattle.std.proofs.lemmas.Bool.{cases_Bool}
 use Rattle.bus_core.specs.declared.operation.BusEntry.{BusEntry}
 use Rattle.bus_core.specs.Operation.{stored, loaded}

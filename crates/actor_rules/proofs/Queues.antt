@@ -1,38 +1,27 @@
 -- What ties a work queue of words to one of the abstract state.
-use Rattle.std.proofs.Common.{◌≡◌, ℕ, ◌++◌, List, [], ◌∷◌, length, map, take, Option, None, Some, if◌then◌else◌}
+use Rattle.std.proofs.Common.{◌≡◌, ℕ, ◌++◌, List, length}
 use Rattle.verbs_types.specs.declared.call.Call.{Call}
-use Rattle.verbs_types.specs.declared.call.Call.TheVariants.{Post, Recv}
 use Rattle.verbs_types.specs.declared.completion.Queue.{Queue}
 use Rattle.verbs_types.specs.declared.completion.Queue.TheVariants as queues
 use Rattle.verbs_types.specs.declared.declaration.Lines.{Lines}
 use Rattle.verbs_types.specs.declared.request.Item.{Item}
-use Rattle.verbs_types.specs.declared.request.Item.TheVariants.{Request as TheRequest, Receive as TheReceive}
-use Rattle.verbs_rules.specs.Same.{same_queue}
-use Rattle.verbs_rules.specs.State.{Verbs}
+use Rattle.verbs_rules.specs.State.{WorkQueue, Verbs}
 use Rattle.counted_ring.specs.Queue as counted
 use Rattle.object_places.specs.Objects.{Lives, Sends, Receives}
 use Rattle.object_places.specs.Places.{qp_line}
-use Rattle.provider_post.specs.declared.call.Call as post
 use Rattle.provider_post.specs.Item.{IsWrittenItem}
 use Rattle.actor_rules.specs.Thread.{Thread, queue_place}
-use Rattle.actor_rules.specs.Owners.{poster_of}
 use Rattle.actor_rules.specs.Actors.{Actors}
 use Rattle.actor_rules.proofs.Matching.{Match}
-use Rattle.actor_rules.proofs.Objects.{Lists}
+use Rattle.actor_rules.proofs.View.{View, view, written_in}
+pub use Rattle.actor_rules.proofs.View.{accepted}
 
--- the items of a call that are written and not yet rung
-abbrev pub accepted : Option post.Call → List Item → List Item
-accepted None items = []
-accepted (Some call) items = if call.recorded then [] else take call.accepted items
-
+-- those of a thread, and of the one that posts on the queue
 abbrev pub written_by : Queue → Thread → List Call → List Item
-written_by queue t (Post qp requests ∷ rest) = if same_queue queue (queues.Send qp) then accepted t.posting (map TheRequest requests) else []
-written_by queue t (Recv qp receives ∷ rest) = if same_queue queue (queues.Recv qp) then accepted t.posting (map TheReceive receives) else []
-written_by queue t _ = []
+written_by queue t calls = written_in queue t.posting calls
 
--- those of the thread that posts on the queue
 abbrev pub written : List (List Call) → Actors → Queue → List Item
-written programs w queue = written_by queue (w.threads (poster_of programs queue)) (w.threads (poster_of programs queue)).calls
+written programs w queue = (view programs w).written queue
 
 -- a request of the words is this item
 abbrev pub IsItem : Lines → Queue → counted.Request → Item → Type 0
@@ -50,12 +39,19 @@ QueueLives d (queues.Send qp) = Lives d (Sends qp)
 QueueLives d (queues.Recv qp) = Lives d (Receives qp)
 QueueLives d (queues.Shared srq) = ⊥
 
-pub record QueueStands (d : Lines) (programs : List (List Call)) (w : Actors) (v : Verbs) (q : counted.Queue) (queue : Queue) : Type 0 where
-  pub posted : Match (IsItem d queue) q.requests ((v.queues queue).posted ++ written programs w queue)
-  pub rung : q.rung ≡ length (v.queues queue).posted
-  pub taken : (v.queues queue).taken ≡ q.taken
-  pub retired : (v.queues queue).retired ≡ q.retired
-  pub room : (v.queues queue).room ≡ (queue_place d queue).max_post
-  pub segments : (v.queues queue).segments ≡ segments_of d queue
+-- A work queue of words, of which so much is written and not rung and this is told, stands for this one.
+pub record QueueIs (d : Lines) (written_items told_items : List Item) (u : WorkQueue) (q : counted.Queue) (queue : Queue) : Type 0 where
+  pub posted : Match (IsItem d queue) q.requests (u.posted ++ written_items)
+  pub rung : q.rung ≡ length u.posted
+  pub taken : u.taken ≡ q.taken
+  pub retired : u.retired ≡ q.retired
+  pub room : u.room ≡ (queue_place d queue).max_post
+  pub segments : u.segments ≡ segments_of d queue
   -- what the history tells of it is what was posted
-  pub told : w.posted queue ≡ (v.queues queue).posted
+  pub told : told_items ≡ u.posted
+
+abbrev pub QueueIn : Lines → View → Verbs → counted.Queue → Queue → Type 0
+QueueIn d s v q queue = QueueIs d (s.written queue) (s.told queue) (v.queues queue) q queue
+
+abbrev pub QueueStands : Lines → List (List Call) → Actors → Verbs → counted.Queue → Queue → Type 0
+QueueStands d programs w v q queue = QueueIn d (view programs w) v q queue

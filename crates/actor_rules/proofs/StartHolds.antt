@@ -1,11 +1,10 @@
 -- What holds before the first operation.
-use Rattle.std.proofs.Common.{◌≡◌, ℕ, zero, suc, ◌<◌, ◌≤◌, ◌-◌, ◌+◌, ◌++◌, arith, refl, sym, ap, subst, ◌∙◌, true, false, Bool, if◌then◌else◌, List, [], ◌∷◌, length, map, IsTrue, Option, None, Some, get_or, slice_get, slice_index_or, drop, ◌^◌}
+use Rattle.std.proofs.Common.{◌≡◌, ℕ, zero, suc, ◌<◌, ◌-◌, ◌++◌, arith, refl, sym, ap, subst, ◌∙◌, true, false, Bool, if◌then◌else◌, List, [], ◌∷◌, length, map, IsTrue, Option, None, Some, get_or, slice_get, slice_index_or, drop, ◌^◌}
 use Rattle.std.specs.List.{AllByRecursion, flat_map}
 use Rattle.std.specs.Option.{option_map_or}
 use Rattle.std.proofs.lemmas.Bool.{and_parts, ltb-true, cond_both}
 use Rattle.std.proofs.lemmas.Option.{slice_get-get_or}
 use Rattle.std.proofs.lemmas.List.{length-map}
-use Rattle.bus_core.specs.Trace.{Memory}
 use Rattle.verbs_types.specs.declared.call.Call.{Call}
 use Rattle.verbs_types.specs.declared.call.Call.TheVariants.{Post, Recv, Poll, Drain}
 use Rattle.verbs_types.specs.declared.completion.Queue.{Queue}
@@ -16,12 +15,11 @@ use Rattle.verbs_types.specs.declared.state.Unpolled.{Unpolled}
 use Rattle.verbs_types.specs.declared.declaration.TheConstants.{FIRST_QP}
 use Rattle.verbs_types.specs.declared.request.Item.{Item}
 use Rattle.verbs_types.specs.declared.request.Item.TheVariants.{Request as TheRequest, Receive as TheReceive}
-use Rattle.verbs_rules.specs.Answered.{Due, due_by}
+use Rattle.verbs_rules.specs.Answered.{due_by}
 use Rattle.verbs_types.specs.Lines.{is_among, is_declared}
 use Rattle.verbs_rules.specs.Same.{same_queue}
-use Rattle.verbs_rules.specs.Start.{start, for_line, start_queue, start_pair, fresh_queue, no_queue, fresh_completions, no_completions}
-use Rattle.verbs_rules.specs.State.{Verbs, WorkQueue, CompletionQueue}
-use Rattle.verbs_rules.specs.Running.{Running}
+use Rattle.verbs_rules.specs.Start.{start, for_line, start_queue, fresh_queue, no_queue, fresh_completions, no_completions}
+use Rattle.verbs_rules.specs.State.{WorkQueue, CompletionQueue}
 use Rattle.actor_map.specs.Start.{start_words}
 use Rattle.cq_pair.specs.Queue as completions
 use Rattle.cq_pair.proofs.Law as completions_law
@@ -37,18 +35,18 @@ use Rattle.actor_rules.specs.Thread.{Thread, fresh_thread, fresh_poll, program_o
 use Rattle.actor_rules.specs.Actors.{Actors, fresh_actors}
 use Rattle.actor_rules.specs.Polling.{place_in}
 use Rattle.device_engine.specs.State.{AdapterAt, Looking, Ending, send_cq, first_work, fresh_adapter}
-use Rattle.actor_rules.specs.Dues.{dues_at, thread_dues, call_dues}
-use Rattle.verbs_rules.specs.Sane.{Bounds, Sane}
+use Rattle.actor_rules.specs.Dues.{dues_at, call_dues}
+use Rattle.verbs_rules.specs.Sane.{Bounds}
 use Rattle.provider_poll.specs.declared.state.PollState.TheVariants.{Idle}
 use Rattle.actor_rules.specs.Owners.{poster_of}
 use Rattle.actor_rules.proofs.Matching.{Match}
 use Rattle.actor_rules.proofs.Objects.{Lists, IsTied, retirer_in}
 use Rattle.actor_rules.proofs.Queues.{QueueLives, QueueStands, IsItem, segments_of, written, written_by, accepted}
 use Rattle.actor_rules.proofs.Completions.{CompletionsStand, IsCompletion, AskedFor}
-use Rattle.actor_rules.proofs.Adapter.{AdapterStands, AdapterStandsAt}
+use Rattle.actor_rules.proofs.Adapter.{AdapterStandsAt}
 use Rattle.actor_rules.specs.Ready.{AreReady, IsOwnCall, first_dues}
 use Rattle.actor_rules.proofs.Threads.{StandsAt, ThreadStands}
-use Rattle.actor_rules.proofs.Holding.{AsDeclared, Stands, Holds, IsMapped}
+use Rattle.actor_rules.proofs.Holding.{Holds, IsMapped}
 
 -- what the map of objects and the programs give a run to begin with
 pub record CanAct (d : Lines) (programs : List (List Call)) (bounds : Bounds) : Type 0 where
@@ -145,10 +143,7 @@ module _ (d : Lines) (programs : List (List Call)) where
   completions_stand : (cq : ℕ) → Lives d (Completions cq) → CompletionsStand d lists (fresh_poll d cq) [] (start d) cq
   completions_stand cq lives =
       let is = completions_start cq lives in record {
-        acked = ap (λ (c : CompletionQueue). c.acked) is;
-        produced = ap (λ (c : CompletionQueue). c.produced) is ∙ omega arith;
-        size = ap (λ (c : CompletionQueue). c.size) is;
-        runs = refl;
+        counts = record { acked = ap (λ (c : CompletionQueue). c.acked) is; produced = ap (λ (c : CompletionQueue). c.produced) is ∙ omega arith; size = ap (λ (c : CompletionQueue). c.size) is; runs = refl };
         from = (cq_line d cq).start;
         from_is = omega arith;
         low = omega arith;
@@ -168,11 +163,8 @@ module _ (d : Lines) (programs : List (List Call)) where
   first_stands work is = subst (AdapterStandsAt d lists (start d) (fresh_adapter d)) is
       (cond_both (is_among FIRST_QP (length d.qps) FIRST_QP) Looking Ending (AdapterStandsAt d lists (start d) (fresh_adapter d)) (λ among. record { lives = among; idle = refl }) (λ none. refl))
 
-  adapter_start : AdapterStands d lists (start d) (fresh_adapter d)
-  adapter_start = record {
-    taken = λ qp lives. sym (for_line_all (λ (u : WorkQueue). u.taken ≡ 0) FIRST_QP d.qps (λ (l : QpLine). fresh_queue l.send_log l.segments) no_queue qp (λ l. refl) refl);
-    work = first_stands (first_work d FIRST_QP) refl;
-  }
+  none_taken : (qp : ℕ) → Lives d (Sends qp) → 0 ≡ ((start d).queues (queues.Send qp)).taken
+  none_taken qp lives = sym (for_line_all (λ (u : WorkQueue). u.taken ≡ 0) FIRST_QP d.qps (λ (l : QpLine). fresh_queue l.send_log l.segments) no_queue qp (λ l. refl) refl)
 
   -- a thread before its first call
   pub dues_of_calls : (t : Thread) (calls : List Call) → t.posting ≡ None → ((cq : ℕ) → (t.polls cq).state ≡ Idle) → call_dues d t calls ≡ flat_map due_by calls
@@ -209,13 +201,12 @@ module _ (d : Lines) (programs : List (List Call)) where
     owed = refl;
     stands = record {
       lists = lists;
-      objects = objects_start can.starts can.map.declared;
-      queues = queues_start;
-      completions = completions_stand;
-      adapter = adapter_start;
-      threads = λ t. thread_start t (can.ready.calls t);
-      declared = record { pairs = λ qp. refl; pair_lives = λ qp. refl; completions_live = λ cq. refl };
-      long = length-map programs (flat_map due_by);
-      sane = can.ready.sane;
+      bare = record {
+        objects = objects_start can.starts can.map.declared;
+        state = record { queues = queues_start; completions = completions_stand; taken = none_taken };
+        threads = λ t. thread_start t (can.ready.calls t);
+        sound = record { declared = record { pairs = λ qp. refl; pair_lives = λ qp. refl; completions_live = λ cq. refl }; long = length-map programs (flat_map due_by); sane = can.ready.sane };
+      };
+      work = first_stands (first_work d FIRST_QP) refl;
     };
   }

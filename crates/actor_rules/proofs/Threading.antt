@@ -1,5 +1,5 @@
 -- One thread's state among all.
-use Rattle.std.proofs.Common.{◌≡◌, ◌≢◌, ℕ, inl, inr, refl, sym, ap, subst, ◌∙◌}
+use Rattle.std.proofs.Common.{◌≡◌, ◌≢◌, ℕ, inl, inr, refl, sym, subst, ◌==◌, Bool, true, false}
 use Rattle.std.proofs.lemmas.Bool.Decides.{eqb_tells}
 use Rattle.actor_rules.specs.Family.{put_number}
 
@@ -20,3 +20,7 @@ module _ {V : Type 0} (values : ℕ → V) (key : ℕ) (value : V) where
   -- what the new value has as the old one had it, all have
   pub put_keeps : {U : Type 0} (read : V → U) → read value ≡ read (values key) → (x : ℕ) → read (put_number values key value x) ≡ read (values x)
   put_keeps read same x = put_all (λ n v. read v ≡ read (values n)) same (λ other differ. refl) x
+
+-- What holds of the changed number and of the others, where any values a number are changed at one: by whether a number is that one.
+pub number_by : (F : ℕ → Bool → Type 0) (key : ℕ) → F key true → ((other : ℕ) → other ≢ key → F other false) → (k : ℕ) → F k (k == key)
+number_by F key here others k = elim (eqb_tells k key) [ inl t ↦ subst (F k) (sym t.0) (subst (λ (j : ℕ). F j true) (sym t.1) here) | inr t ↦ subst (F k) (sym t.0) (others k t.1) ]

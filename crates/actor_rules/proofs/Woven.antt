@@ -1,22 +1,17 @@
 -- From the rule of each actor to the whole trace, and from one operation to the law.
-use Rattle.std.proofs.Common.{◌≡◌, ◌≢◌, ℕ, zero, suc, inl, inr, refl, sym, ap, subst, ◌∙◌, arith, eqb, ◌==◌, if◌then◌else◌, true, false, List, [], ◌∷◌, Option, Some, None}
-use Rattle.std.specs.Prelude.{map}
-use Rattle.std.specs.List.{filter}
+use Rattle.std.proofs.Common.{◌≡◌, ◌≢◌, ℕ, zero, suc, inl, inr, refl, sym, ap, subst, ◌∙◌, arith, eqb, ◌==◌, if◌then◌else◌, List, [], ◌∷◌, Option, Some, None}
 use Rattle.std.proofs.lemmas.Bool.{eq-eqb}
 use Rattle.std.proofs.lemmas.Bool.Decides.{eqb_tells}
-use Rattle.bus_core.specs.declared.operation.BusEntry.{BusEntry}
 use Rattle.bus_core.specs.Follow.{Follows}
 use Rattle.bus_core.specs.Mark.{Marked, entries}
-use Rattle.bus_core.specs.Trace.{Memory, IsConsistent, Tells, after_entry}
+use Rattle.bus_core.specs.Trace.{Memory, IsConsistent, after_entry}
 use Rattle.bus_core.specs.Weave.{TellsApart, spelled}
 use Rattle.bus_core.proofs.Weaving as weaving
 use Rattle.verbs_types.specs.declared.call.Call.{Call}
 use Rattle.verbs_types.specs.declared.declaration.Lines.{Lines}
 use Rattle.verbs_types.specs.declared.entry.Entry.{Entry}
-use Rattle.verbs_types.specs.declared.entry.What.{What}
 use Rattle.verbs_rules.specs.Answered.{Due, MayAnswer, after_answer, own_entries}
 use Rattle.verbs_rules.specs.Legal.{IsLegal}
-use Rattle.verbs_rules.specs.Step.{MayStep, after_entry as step}
 use Rattle.verbs_rules.specs.Running.{Running, after_turn}
 use Rattle.object_places.specs.Objects.{Mark}
 use Rattle.actor_rules.specs.Actors.{Actors, Knows, part, May, MayAny, next, after, after_by, says}

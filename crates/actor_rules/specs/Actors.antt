@@ -1,5 +1,5 @@
 -- All actors: what each knows, its rule over its own operations, and what its marked operations say.
-use Rattle.std.specs.Prelude.{ℕ, zero, suc, ◌≡◌, ◌-◌, ◌++◌, ◌==◌, List, [], Option, None, Some, option_map, slice_get, unwrap_or}
+use Rattle.std.specs.Prelude.{ℕ, zero, suc, ◌≡◌, ◌-◌, ◌++◌, List, [], Option, Some, option_map, slice_get, unwrap_or}
 use Rattle.bus_core.specs.Mark.{Marked}
 use Rattle.verbs_types.specs.declared.call.Call.{Call}
 use Rattle.verbs_types.specs.declared.completion.Queue.{Queue}

@@ -1,6 +1,6 @@
 -- The rule of a thread, over its own operations: it makes the calls of its program one after another, and at last sets
 -- its bit in the word of ended actors.
-use Rattle.std.specs.Prelude.{ℕ, ◌≡◌, ◌^◌, true, false, List, [], ◌∷◌, length, map, Option, None}
+use Rattle.std.specs.Prelude.{ℕ, ◌≡◌, ◌^◌, true, false, List, [], ◌∷◌, map, Option, None}
 use Rattle.bus_core.specs.Mark.{Marked}
 use Rattle.bus_core.specs.Operation.{IsSetBits}
 use Rattle.verbs_types.specs.declared.call.Call.{Call}

@@ -1,5 +1,5 @@
 -- What a thread still owes, by its calls and how far it has come.
-use Rattle.std.specs.Prelude.{ℕ, zero, suc, ◌-◌, ◌++◌, ◌==◌, Bool, true, false, List, [], ◌∷◌, length, map, replicate, take, flat_map, slice_index_or, Option, None, Some, is_some, if◌then◌else◌}
+use Rattle.std.specs.Prelude.{ℕ, zero, suc, ◌-◌, ◌++◌, Bool, true, false, List, [], ◌∷◌, map, replicate, take, flat_map, slice_index_or, Option, None, Some, is_some, if◌then◌else◌}
 use Rattle.verbs_types.specs.declared.call.Call.{Call}
 use Rattle.verbs_types.specs.declared.call.Call.TheVariants.{Post, Recv, Poll, Drain}
 use Rattle.verbs_types.specs.declared.completion.Queue.{Queue}
@@ -12,6 +12,7 @@ use Rattle.provider_post.specs.declared.call.Call as post
 use Rattle.provider_poll.specs.declared.state.End.{End}
 use Rattle.provider_poll.specs.declared.state.PollState.{PollState}
 use Rattle.provider_poll.specs.declared.state.PollState.TheVariants as states
+use Rattle.provider_poll.specs.Rule.{PollRule}
 use Rattle.actor_rules.specs.Thread.{Thread, completing}
 
 -- what the thread of a number owes, where the threads owe this in order; they are numbered from 1
@@ -46,12 +47,15 @@ abbrev pub drain_dues : Lines → ℕ → ℕ → PollState → List Due
 drain_dues d cq count state = if is_storing state then store_dues d cq state ++ replicate (count - 1) (Draining cq) else replicate count (Draining cq)
 
 -- of the first call that is left, and of the others
+abbrev pub dues_of : Lines → Option post.Call → (ℕ → PollRule) → List Call → List Due
+dues_of d posting polls [] = []
+dues_of d posting polls (Post qp requests ∷ rest) = post_dues (queues.Send qp) (map TheRequest requests) posting ++ flat_map due_by rest
+dues_of d posting polls (Recv qp receives ∷ rest) = post_dues (queues.Recv qp) (map TheReceive receives) posting ++ flat_map due_by rest
+dues_of d posting polls (Poll cq most ∷ rest) = poll_dues d cq most (polls cq).state ++ flat_map due_by rest
+dues_of d posting polls (Drain cq count ∷ rest) = drain_dues d cq count (polls cq).state ++ flat_map due_by rest
+
 abbrev pub call_dues : Lines → Thread → List Call → List Due
-call_dues d t [] = []
-call_dues d t (Post qp requests ∷ rest) = post_dues (queues.Send qp) (map TheRequest requests) t.posting ++ flat_map due_by rest
-call_dues d t (Recv qp receives ∷ rest) = post_dues (queues.Recv qp) (map TheReceive receives) t.posting ++ flat_map due_by rest
-call_dues d t (Poll cq most ∷ rest) = poll_dues d cq most (t.polls cq).state ++ flat_map due_by rest
-call_dues d t (Drain cq count ∷ rest) = drain_dues d cq count (t.polls cq).state ++ flat_map due_by rest
+call_dues d t calls = dues_of d t.posting t.polls calls
 
 abbrev pub thread_dues : Lines → Thread → List Due
 thread_dues d t = call_dues d t t.calls

@@ -1,8 +1,7 @@
 -- A thread's operations in a call that takes completions.
-use Rattle.std.specs.Prelude.{ℕ, ◌≡◌, ◌-◌, ◌==◌, ◌++◌, nat_le, Bool, true, false, List, [], ◌∷◌, length, Option, None, Some, position, unwrap_or, if◌then◌else◌}
-use Rattle.bus_core.specs.declared.operation.BusEntry.{BusEntry}
+use Rattle.std.specs.Prelude.{ℕ, ◌≡◌, ◌-◌, ◌==◌, ◌++◌, nat_le, Bool, true, false, List, [], ◌∷◌, Option, None, Some, position, unwrap_or, if◌then◌else◌}
 use Rattle.bus_core.specs.declared.turn.Step.{Step}
-use Rattle.bus_core.specs.declared.turn.Step.TheVariants.{More, Gave, Done}
+use Rattle.bus_core.specs.declared.turn.Step.TheVariants.{Gave, Done}
 use Rattle.bus_core.specs.Mark.{Marked}
 use Rattle.verbs_types.specs.declared.call.Call.{Call}
 use Rattle.verbs_types.specs.declared.call.Call.TheVariants.{Drain}
@@ -13,7 +12,7 @@ use Rattle.verbs_types.specs.declared.entry.What.{What}
 use Rattle.verbs_types.specs.declared.entry.What.TheVariants.{Poll, Retire, Ack}
 use Rattle.cq_pair.specs.Mark as host
 use Rattle.counted_ring.specs.Mark as counted
-use Rattle.object_places.specs.Objects.{Mark, OnCompletions, OnSends, OnReceives, Ends}
+use Rattle.object_places.specs.Objects.{Mark, OnCompletions, OnSends}
 use Rattle.provider_poll.specs.declared.answer.PollAnswer.{PollAnswer}
 use Rattle.provider_poll.specs.declared.answer.PollAnswer.TheVariants.{Polled}
 use Rattle.provider_poll.specs.declared.state.PollState.{PollState}

@@ -1,5 +1,5 @@
 -- A thread's operations in a call that posts.
-use Rattle.std.specs.Prelude.{ℕ, ◌≡◌, List, length, Option, None, Some, unwrap_or, is_some, if◌then◌else◌}
+use Rattle.std.specs.Prelude.{ℕ, ◌≡◌, List, length, Option, None, Some, unwrap_or}
 use Rattle.bus_core.specs.declared.operation.BusEntry.{BusEntry}
 use Rattle.bus_core.specs.Mark.{Marked}
 use Rattle.verbs_types.specs.declared.call.Call.{Call}

@@ -1,5 +1,5 @@
 -- A run of all actors over the words, and the history that it spells.
-use Rattle.std.specs.Prelude.{ℕ, zero, suc, ◌==◌, List, [], slice_index_or, map, IsTrue, filter}
+use Rattle.std.specs.Prelude.{ℕ, suc, ◌==◌, List, filter}
 use Rattle.bus_core.specs.Follow.{Follows}
 use Rattle.bus_core.specs.Mark.{Marked, entries}
 use Rattle.bus_core.specs.Trace.{IsConsistent}
@@ -13,7 +13,7 @@ use Rattle.verbs_rules.specs.Legal.{IsLegal}
 use Rattle.actor_map.specs.Start.{start_words}
 use Rattle.object_places.specs.Objects.{Mark}
 use Rattle.actor_rules.specs.Thread.{program_of}
-use Rattle.actor_rules.specs.Actors.{Actors, fresh_actors, part, May, next, after, says}
+use Rattle.actor_rules.specs.Actors.{fresh_actors, part, May, next, after, says}
 
 -- the operations of one actor, in order
 abbrev pub own : ℕ → List (Marked Mark) → List (Marked Mark)

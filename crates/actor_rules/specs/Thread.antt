@@ -1,5 +1,5 @@
 -- A thread before its next operation.
-use Rattle.std.specs.Prelude.{ℕ, zero, suc, slice_index_or, ◌+◌, ◌==◌, ◌<◌, ◌&&◌, nat_le, nat_lt, not, Bool, true, false, List, [], Option, None, map, filter, position, unwrap_or, replicate, length}
+use Rattle.std.specs.Prelude.{ℕ, zero, suc, slice_index_or, ◌+◌, ◌==◌, ◌&&◌, nat_le, nat_lt, not, Bool, List, [], Option, None, map, filter, length}
 use Rattle.std.specs.List.{enumerate_from}
 use Rattle.verbs_types.specs.declared.call.Call.{Call}
 use Rattle.verbs_types.specs.declared.completion.Completion.{Completion}

@@ -34,8 +34,7 @@ use Rattle.actor_rules.proofs.Adapter.{AdapterStandsAt, Owes}
 use Rattle.actor_rules.proofs.AdapterPublishes as publishes
 use Rattle.actor_rules.proofs.Holding.{Holds, IsMapped}
 use Rattle.actor_rules.proofs.PostCalls.{IsPostCall, now_of, post_call, receive_call}
-use Rattle.actor_rules.proofs.PostNow.{QueueTied, queue_tied, retirer_at, reader_at, place_fine, object_lives, touches_queue}
-use Rattle.actor_rules.proofs.PostStands.{object_of}
+use Rattle.actor_rules.proofs.PostNow.{object_of, QueueTied, queue_tied, retirer_at, reader_at, place_fine, object_lives, touches_queue}
 use Rattle.actor_rules.proofs.Queues.{QueueLives}
 use Rattle.marked_stores.specs.News.{IsNews}
 use Rattle.marked_stores.specs.Stores.{SaysEntry}
@@ -82,7 +81,7 @@ module _ (d : Lines) (programs : List (List Call)) (bounds : Bounds) (map_ok : I
         let fine = place_fine d programs map_ok queue lives in
         let q = holds.stands.lists.queues queue in
         let mark = mark_of (now_of (length items) s.posting) in
-        let tied : QueueTied d programs m w queue (s.posters queue) q = subst (λ (n : ℕ). QueueTied d programs m w queue ((w.threads n).posters queue) q) call.own.1.owner (queue_tied d programs queue m w holds.stands.lists lives holds.stands.objects) in
+        let tied : QueueTied d programs m w queue (s.posters queue) q = subst (λ (n : ℕ). QueueTied d programs m w queue ((w.threads n).posters queue) q) call.own.1.owner (queue_tied d programs queue m w holds.stands.lists lives holds.stands.bare.objects) in
         let inside = touches_queue d programs queue x.entry.addr lives (bring_inside (queue_place d queue) fine x.entry m (s.posters queue) (retirer_at d programs w queue) (reader_at d w queue) q mark tied may.goes_on.brings) in
         let here = news_in d map_ok (object_of queue) x.entry.addr (object_lives d programs queue lives) inside news in
         elim (posters.brings (queue_place d queue) fine x.entry m (s.posters queue) (retirer_at d programs w queue) (reader_at d w queue) q mark tied may.goes_on.brings) [
@@ -94,10 +93,10 @@ module _ (d : Lines) (programs : List (List Call)) (bounds : Bounds) (map_ok : I
     call_told : (calls : List Call) → s.calls ≡ calls → MayCall d s (suc t) calls x → is_some (call_says d s calls x) ≡ true
     call_told [] is may = absurd (ended_no_news d map_ok x.entry.addr may.sets.at_address news)
     call_told (Post qp requests ∷ rest) is may =
-        let stands = holds.stands.threads t in
+        let stands = holds.stands.bare.threads t in
         post_told (queues.Send qp) (map TheRequest requests) rest (post_call d programs (suc t) s qp requests rest is stands.calls stands.work) may
     call_told (Recv qp receives ∷ rest) is may =
-        let stands = holds.stands.threads t in
+        let stands = holds.stands.bare.threads t in
         post_told (queues.Recv qp) (map TheReceive receives) rest (receive_call d programs (suc t) s qp receives rest is stands.calls stands.work) may
     call_told (Poll cq most ∷ rest) is may = (poll_told d s cq most x may writes).polled
     call_told (Drain cq count ∷ rest) is may = (poll_told d s cq 1 x may writes).drained
@@ -128,7 +127,7 @@ module _ (d : Lines) (programs : List (List Call)) (bounds : Bounds) (map_ok : I
   adapter_told Ending stands may = absurd (writes may.op)
 
   what_told : (actor : ℕ) → May d actor (part actor w) x → is_some (what_of d w actor x) ≡ true
-  what_told zero may = adapter_told a.at_work holds.stands.adapter.work may.goes_on
+  what_told zero may = adapter_told a.at_work holds.stands.work may.goes_on
   what_told (suc t) may = call_told t (w.threads (suc t)).calls refl may
 
 -- an operation that keeps its actor's rule

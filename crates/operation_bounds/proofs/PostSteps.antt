@@ -17,7 +17,7 @@ use Rattle.provider_post.specs.Rule.{post_side_poster, post_side_call}
 use Rattle.actor_rules.specs.Posting.{MayPost, post_now, after_post, calls_after_post}
 use Rattle.actor_rules.specs.Ready.{IsOwnCall}
 use Rattle.actor_rules.specs.Thread.{Thread, queue_place}
-use Rattle.actor_rules.proofs.PollMoves.{queue_here, queue_cases}
+use Rattle.actor_rules.proofs.PerQueue.{queue_here, queue_cases}
 use Rattle.operation_bounds.proofs.Posts.{IsStaged, IsPosting, Left, post_left, post_goes}
 use Rattle.operation_bounds.proofs.Threads.{IsPostAt, IsInPost, IsAtCall, Stands, Went, Over, On, begins, left_of, post_now_left}
 

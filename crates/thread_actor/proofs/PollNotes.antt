@@ -33,9 +33,9 @@ use Rattle.thread_actor.specs.Stands.{IsTaking, IsPolling}
 use Rattle.thread_actor.specs.Turn.{IsNoteOf}
 
 -- by what the operation says, what is left of a poll of at most so many that had given these
-pub record Leaves (most : ℕ) (given : List Completion) (said : Option What) (turned : PollStep) : Type 0 where
-  pub noted : IsNoteOf said turned.noted
-  pub in_drain : IsNoteOf (took_some said) (note_at (taken_by turned.answer) turned.noted)
+pub record Leaves (most : ℕ) (given : List Completion) (said : Option What) (seen_is : ℕ) (turned : PollStep) : Type 0 where
+  pub noted : IsNoteOf said seen_is turned.noted
+  pub in_drain : IsNoteOf (took_some said) seen_is (note_at (taken_by turned.answer) turned.noted)
   pub goes_on : taken_by turned.answer ≡ None → IsPolling most (given_after given turned.answer) turned.state
   pub over : (taken : ℕ) → taken_by turned.answer ≡ Some taken → turned.state ≡ states.Idle
 
@@ -69,8 +69,8 @@ module _ (cq most : ℕ) (given : List Completion) where
   none_given (x ∷ xs) is = absurd (omega (arith, is))
 
   -- the poll's loads go on
-  loads : (state : PollState) → is_loading state ≡ true → IsPolling most given state → Leaves most given (load_says cq most (given_with given More) state) (record { state = state; answer = More; noted = None })
-  loads state loading polling = record {
+  loads : (seen : ℕ) (state : PollState) → is_loading state ≡ true → IsPolling most given state → Leaves most given (load_says cq most (given_with given More) state) seen (record { state = state; answer = More; noted = None })
+  loads seen state loading polling = record {
     noted = rw loading refl;
     in_drain = rw loading refl;
     goes_on = λ none. polling;
@@ -79,11 +79,11 @@ module _ (cq most : ℕ) (given : List Completion) where
 
   module _ (queues : List SendView) (asked : ℕ) (ends : ArrayVec End) (seen : ℕ) (taking : IsTaking most given asked ends) where
     -- one more was taken, and there are as many as were asked for
-    full : (end : End) (c : Completion) → Leaves most given (load_says cq most (given ++ c ∷ []) (storing queues (array_vec_len ends + 1) None (ends.items ++ end ∷ [])))
+    full : (end : End) (c : Completion) → Leaves most given (load_says cq most (given ++ c ∷ []) (storing queues (array_vec_len ends + 1) None (ends.items ++ end ∷ []))) seen
         (record { state = storing queues (array_vec_len ends + 1) None (ends.items ++ end ∷ []); answer = Gave c; noted = Some (poll_note cq asked (array_vec_len ends + 1) seen) })
     full end c = record {
-      noted = rw (not_loading queues (array_vec_len ends + 1) None (ends.items ++ end ∷ [])) (seen, note_is);
-      in_drain = rw (not_loading queues (array_vec_len ends + 1) None (ends.items ++ end ∷ [])) (rw (keeps_some (given ++ c ∷ []) more_given) (seen, note_is));
+      noted = rw (not_loading queues (array_vec_len ends + 1) None (ends.items ++ end ∷ [])) note_is;
+      in_drain = rw (not_loading queues (array_vec_len ends + 1) None (ends.items ++ end ∷ [])) (rw (keeps_some (given ++ c ∷ []) more_given) note_is);
       goes_on = λ none. stores most (given ++ c ∷ []) queues (array_vec_len ends + 1) None (ends.items ++ end ∷ []) (omega arith);
       over = λ taken is. absurd (false≢true (ap is_some is));
     } where
@@ -93,7 +93,7 @@ module _ (cq most : ℕ) (given : List Completion) where
       note_is : Some (poll_note cq asked (array_vec_len ends + 1) seen) ≡ Some (poll_note cq most (length (given ++ c ∷ [])) seen)
       note_is = λ i. Some (poll_note cq (taking.asked_is i) (sym (push_length given c ∙ ap (λ (n : ℕ). n + 1) taking.given_each) i) seen)
 
-    one_more : (end : End) (c : Completion) → nat_lt (array_vec_len ends + 1) asked ≡ true → Leaves most given (load_says cq most (given ++ c ∷ []) (states.Polling asked (record { items = ends.items ++ end ∷ [] })))
+    one_more : (end : End) (c : Completion) → nat_lt (array_vec_len ends + 1) asked ≡ true → Leaves most given (load_says cq most (given ++ c ∷ []) (states.Polling asked (record { items = ends.items ++ end ∷ [] }))) seen
         (record { state = states.Polling asked (record { items = ends.items ++ end ∷ [] }); answer = Gave c; noted = None })
     one_more end c more = record {
       noted = refl;
@@ -106,23 +106,23 @@ module _ (cq most : ℕ) (given : List Completion) where
       over = λ taken is. absurd (false≢true (ap is_some is));
     }
 
-    pub takes : (end : End) (c : Completion) → Leaves most given (load_says cq most (given_with given (with_end cq queues asked ends seen end c).answer) (with_end cq queues asked ends seen end c).state) (with_end cq queues asked ends seen end c)
+    pub takes : (end : End) (c : Completion) → Leaves most given (load_says cq most (given_with given (with_end cq queues asked ends seen end c).answer) (with_end cq queues asked ends seen end c).state) seen (with_end cq queues asked ends seen end c)
     takes end c = elim (cases_Bool (nat_lt (array_vec_len ends + 1) asked)) [
       | inl more ↦ rw more (one_more end c more)
       | inr all ↦ rw all (full end c)
     ]
 
-    pub finds_none : (word : ℕ) → Leaves most given (load_says cq most (given_with given (with_none cq queues asked ends seen word).answer) (with_none cq queues asked ends seen word).state) (with_none cq queues asked ends seen word)
+    pub finds_none : (word : ℕ) → Leaves most given (load_says cq most (given_with given (with_none cq queues asked ends seen word).answer) (with_none cq queues asked ends seen word).state) seen (with_none cq queues asked ends seen word)
     finds_none word = elim (cases_Bool (array_vec_len ends == 0)) [
       | inl none ↦ rw none (record {
-        noted = (seen, at_none none);
-        in_drain = subst (λ (xs : List Completion). IsNoteOf (took_some (Some (Poll cq most xs))) None) (sym (given_none none)) refl;
+        noted = at_none none;
+        in_drain = subst (λ (xs : List Completion). IsNoteOf (took_some (Some (Poll cq most xs))) seen None) (sym (given_none none)) refl;
         goes_on = λ is. absurd (false≢true (sym (ap is_some is)));
         over = λ taken is. refl;
       })
       | inr some ↦ rw some (record {
-        noted = rw (not_loading queues (array_vec_len ends) (Some word) ends.items) (seen, at_some);
-        in_drain = rw (not_loading queues (array_vec_len ends) (Some word) ends.items) (rw (keeps_some given (given_some some)) (seen, at_some));
+        noted = rw (not_loading queues (array_vec_len ends) (Some word) ends.items) at_some;
+        in_drain = rw (not_loading queues (array_vec_len ends) (Some word) ends.items) (rw (keeps_some given (given_some some)) at_some);
         goes_on = λ none. stores most given queues (array_vec_len ends) (Some word) ends.items (ends_some some);
         over = λ taken is. absurd (false≢true (ap is_some is));
       })
@@ -146,35 +146,35 @@ module _ (cq most : ℕ) (given : List Completion) where
       at_some = λ i. Some (poll_note cq (taking.asked_is i) (sym taking.given_each i) seen)
 
     -- any operation of the host's in a poll
-    pub looks : (step : Step (Unit {0}) CqDone) → Leaves most given (load_says cq most (given_with given (after_look cq queues asked ends seen step).answer) (after_look cq queues asked ends seen step).state) (after_look cq queues asked ends seen step)
+    pub looks : (step : Step (Unit {0}) CqDone) → Leaves most given (load_says cq most (given_with given (after_look cq queues asked ends seen step).answer) (after_look cq queues asked ends seen step).state) seen (after_look cq queues asked ends seen step)
     looks (Done (Took c)) = at_place (place_of queues c) where
-      at_place : (o : Option ℕ) → Leaves most given (load_says cq most (given_with given (with_completion cq queues asked ends seen c o).answer) (with_completion cq queues asked ends seen c o).state) (with_completion cq queues asked ends seen c o)
-      at_place (Some queue) = loads (states.LookingUp asked ends c queue) refl taking
+      at_place : (o : Option ℕ) → Leaves most given (load_says cq most (given_with given (with_completion cq queues asked ends seen c o).answer) (with_completion cq queues asked ends seen c o).state) seen (with_completion cq queues asked ends seen c o)
+      at_place (Some queue) = loads seen (states.LookingUp asked ends c queue) refl taking
       at_place None = takes (record { queue = 0; end = 0 }) (completion_of c 0)
     looks (Done (Empty index word)) = finds_none word
-    looks (Done (Acked ci)) = loads (states.Polling asked ends) refl taking
-    looks More = loads (states.Polling asked ends) refl taking
-    looks (Gave part) = loads (states.Polling asked ends) refl taking
+    looks (Done (Acked ci)) = loads seen (states.Polling asked ends) refl taking
+    looks More = loads seen (states.Polling asked ends) refl taking
+    looks (Gave part) = loads seen (states.Polling asked ends) refl taking
 
     -- any operation of a lookup
-    pub looks_up : (c : Cqe) (queue : ℕ) (step : Step (Unit {0}) Retired) → Leaves most given (load_says cq most (given_with given (after_lookup cq queues asked ends seen c queue step).answer) (after_lookup cq queues asked ends seen c queue step).state) (after_lookup cq queues asked ends seen c queue step)
+    pub looks_up : (c : Cqe) (queue : ℕ) (step : Step (Unit {0}) Retired) → Leaves most given (load_says cq most (given_with given (after_lookup cq queues asked ends seen c queue step).answer) (after_lookup cq queues asked ends seen c queue step).state) seen (after_lookup cq queues asked ends seen c queue step)
     looks_up c queue (Done (Found id end)) = takes (record { queue = queue; end = end }) (completion_of c id)
-    looks_up c queue (Done (Tail end)) = loads (states.LookingUp asked ends c queue) refl taking
-    looks_up c queue More = loads (states.LookingUp asked ends c queue) refl taking
-    looks_up c queue (Gave part) = loads (states.LookingUp asked ends c queue) refl taking
+    looks_up c queue (Done (Tail end)) = loads seen (states.LookingUp asked ends c queue) refl taking
+    looks_up c queue More = loads seen (states.LookingUp asked ends c queue) refl taking
+    looks_up c queue (Gave part) = loads seen (states.LookingUp asked ends c queue) refl taking
 
-  pub retires : (queues : List SendView) (taken : ℕ) (empty : Option ℕ) (left : List End) (qp end : ℕ) → 0 < taken → Leaves most given (Some (Retire (Send qp) end)) (after_retire queues taken empty left qp end)
-  retires queues taken empty left qp end some = record {
-    noted = (0, refl);
-    in_drain = (0, refl);
+  pub retires : (seen : ℕ) (queues : List SendView) (taken : ℕ) (empty : Option ℕ) (left : List End) (qp end : ℕ) → 0 < taken → Leaves most given (Some (Retire (Send qp) end)) seen (after_retire queues taken empty left qp end)
+  retires seen queues taken empty left qp end some = record {
+    noted = refl;
+    in_drain = refl;
     goes_on = λ none. stores most given queues taken empty left some;
     over = λ taken' is. absurd (false≢true (ap is_some is));
   }
 
-  pub acknowledges : (taken : ℕ) (empty : Option ℕ) (index : ℕ) → 0 < taken → Leaves most given (Some (Ack cq index)) (after_ack cq taken empty index)
-  acknowledges taken empty index some = record {
-    noted = (0, refl);
-    in_drain = let more : (taken == 0) ≡ false = grind (arith, some) in rw more (0, refl);
+  pub acknowledges : (seen taken : ℕ) (empty : Option ℕ) (index : ℕ) → 0 < taken → Leaves most given (Some (Ack cq index)) seen (after_ack cq taken empty index)
+  acknowledges seen taken empty index some = record {
+    noted = refl;
+    in_drain = let more : (taken == 0) ≡ false = grind (arith, some) in rw more refl;
     goes_on = λ is. absurd (false≢true (sym (ap is_some is)));
     over = λ taken' is. refl;
   }

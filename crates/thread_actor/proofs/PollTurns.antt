@@ -47,7 +47,7 @@ use Rattle.thread_actor.specs.Polls.{GoesOn, begun, begun_at, taken_by, note_at,
 use Rattle.thread_actor.specs.Sides.{SidesView, post_side, poll_side, IfThere}
 use Rattle.thread_actor.specs.Small.{IsBelow, IsPosterBelow, IsHostBelow}
 use Rattle.thread_actor.specs.Stands.{IsThread, IsPostSide, IsPollSide, PostRests, Rests, OthersRest, IsTaking, IsPolling, IsPollWork, IsAtWork, HasSide}
-use Rattle.thread_actor.specs.Turn.{IsNoteOf, ThreadTurn, marked}
+use Rattle.thread_actor.specs.Turn.{IsNoteOf, seen_in, ThreadTurn, marked}
 use Rattle.thread_actor.specs.View.{ThreadView, thread_of, calls_left, left_of, posting_in, poster_in, poll_in}
 use Rattle.thread_actor.proofs.Places.{MovesPoll, drop_there}
 use Rattle.thread_actor.proofs.Polling.{begun_rule, rule_begun, place_begun, to_mark, mark_back, on_polled, said_by, leaves, state_after, host_rises}
@@ -68,6 +68,7 @@ pub record IsTake (call now : Call) (cq most : ℕ) : Type 0 where
   pub work : (u : ThreadView) (rest : List Call) → IsPollWork u cq most → IsAtWork u (now ∷ rest)
   pub at_work : (u : ThreadView) (rest : List Call) → IsAtWork u (now ∷ rest) → IsPollWork u cq most
   pub may : (d : Lines) (t : Thread) (number : ℕ) (x : Marked Mark) (rest : List Call) → MayPoll d t cq most x → MayCall d t number (now ∷ rest) x
+  pub seen : (u : ThreadView) (rest : List Call) → seen_in u (now ∷ rest) ≡ ((thread_of u).polls cq).seen
 
 pub begins : (most : ℕ) (given : List Completion) (state : PollState) → 0 < most → IsPolling most given state → IsPolling most given (rules.begun most state)
 begins most given states.Idle some none = record { asked_is = refl; given_each = ap length none; more = some }
@@ -175,7 +176,7 @@ module _ (v : ThreadView) (sides : SidesView) (call now : Call) (cq most : ℕ) 
   polling : IsPolling most v.given before.state
   polling = subst (IfThere (λ (side : PollView). IsPolling most v.given side.state)) moves.was (kind.at_work v rest (subst (IsAtWork v) left stands.work))
 
-  left_it : Leaves most v.given (said_by v.lines cq most v.given (poll_now (thread_of v) cq most) kept_rule.mark e) turned
+  left_it : Leaves most v.given (said_by v.lines cq most v.given (poll_now (thread_of v) cq most) kept_rule.mark e) (after_poll_side (poll_place v.lines cq) (poll_now (thread_of v) cq most) kept_rule.mark e).seen turned
   left_it = leaves v.lines cq most v.given (poll_now (thread_of v) cq most).host (poll_now (thread_of v) cq most).seen (poll_now (thread_of v) cq most).retirers e (poll_now (thread_of v) cq most).state kept_rule.mark
       (subst (λ (r : PollRule). IsPolling most v.given (rules.begun most r.state)) (sym polls_was) (begins most v.given before.state kind.some polling)) may_side
 
@@ -266,7 +267,7 @@ module _ (v : ThreadView) (sides : SidesView) (call now : Call) (cq most : ℕ) 
     -- whatever the call is, and whatever is left of it
     turns : (note : Option Note) (next : Step Completion PollAnswer → List Call) → v'.number ≡ v.number → v'.program ≡ v.program → v'.ended ≡ v.ended → v'.given ≡ given
         → ((x : Marked Mark) → after_call v.lines (thread_of v) (now ∷ rest) x ≡ rules.after_poll v.lines (thread_of v) cq most x next)
-        → calls_left v' ≡ next goes.answer → posting_in v' (calls_left v') ≡ None → IsNoteOf (call_says v.lines (thread_of v) (now ∷ rest) (marked e mark)) note → ThreadTurn v v' e note
+        → calls_left v' ≡ next goes.answer → posting_in v' (calls_left v') ≡ None → IsNoteOf (call_says v.lines (thread_of v) (now ∷ rest) (marked e mark)) after_rule.seen note → ThreadTurn v v' e note
     turns note next number program ended given_is after_is' calls posting noted = record {
       mark = mark;
       may = subst (λ (calls : List Call). MayCall v.lines (thread_of v) v.number calls (marked e mark)) (sym left) (kind.may v.lines (thread_of v) v.number (marked e mark) rest may_poll);
@@ -278,7 +279,7 @@ module _ (v : ThreadView) (sides : SidesView) (call now : Call) (cq most : ℕ) 
           (fun_ext polls_after)
           ended
           ∙ sym (after_is' (marked e mark)) ∙ ap (λ (calls : List Call). after_call v.lines (thread_of v) calls (marked e mark)) (sym left);
-      noted = subst (λ (calls : List Call). IsNoteOf (call_says v.lines (thread_of v) calls (marked e mark)) note) (sym left) noted;
+      noted = coe 1 0 (i. IsNoteOf (call_says v.lines (thread_of v) (left i) (marked e mark)) ((ap (seen_in v') left ∙ kind.seen v' rest ∙ ap (λ (r : PollRule). r.seen) (polls_after cq ∙ number_here (thread_of v).polls cq after_rule)) i) note) noted;
       inside = poll_inside v.lines cq placed stands.declared lives (begun before most) (place_begun before most ∙ is.place) after e goes.answer goes.turn;
       same = record { lines = same_lines; number = number; program = program };
       rises = λ bound below. record {
@@ -302,14 +303,14 @@ module _ (v : ThreadView) (sides : SidesView) (call now : Call) (cq most : ℕ) 
         v' : ThreadView
         v' = moved v v.finished v.taken given sides
 
-  noted_poll : IsNoteOf (poll_says v.lines (thread_of v) cq most (marked e mark)) out.noted
-  noted_poll = subst (λ (what : Option What). IsNoteOf what out.noted) (sym says_is) (subst (IsNoteOf (said_by v.lines cq most v.given (poll_now (thread_of v) cq most) kept_rule.mark e)) (sym (goes.noted ∙ noted_is)) left_it.noted)
+  seen_is : after_rule.seen ≡ (after_poll_side (poll_place v.lines cq) (poll_now (thread_of v) cq most) kept_rule.mark e).seen
+  seen_is = ap (λ (m : PollMark). (after_poll_side (poll_place v.lines cq) (poll_now (thread_of v) cq most) m e).seen) back
 
-  noted_drain : IsNoteOf (took_some (poll_says v.lines (thread_of v) cq most (marked e mark))) (note_in_drain out)
-  noted_drain = subst (λ (what : Option What). IsNoteOf (took_some what) (note_in_drain out)) (sym says_is)
-      (subst (IsNoteOf (took_some (said_by v.lines cq most v.given (poll_now (thread_of v) cq most) kept_rule.mark e))) (sym note_is) left_it.in_drain) where
-        note_is : note_in_drain out ≡ note_at (taken_by turned.answer) turned.noted
-        note_is = λ i. note_at ((goes.taken ∙ ap taken_by answer_is) i) ((goes.noted ∙ noted_is) i)
+  noted_poll : IsNoteOf (poll_says v.lines (thread_of v) cq most (marked e mark)) after_rule.seen out.noted
+  noted_poll = coe 1 0 (i. IsNoteOf (says_is i) (seen_is i) ((goes.noted ∙ noted_is) i)) left_it.noted
+
+  noted_drain : IsNoteOf (took_some (poll_says v.lines (thread_of v) cq most (marked e mark))) after_rule.seen (note_in_drain out)
+  noted_drain = coe 1 0 (i. IsNoteOf (took_some (says_is i)) (seen_is i) (note_at ((goes.taken ∙ ap taken_by answer_is) i) ((goes.noted ∙ noted_is) i))) left_it.in_drain
 
 poll_next_on : (calls rest : List Call) (answer : Step Completion PollAnswer) → taken_by answer ≡ None → calls ≡ calls_after_poll calls rest answer
 poll_next_on calls rest More is = refl
@@ -348,6 +349,7 @@ is_poll cq most some = record {
   work = λ u rest h. h;
   at_work = λ u rest h. h;
   may = λ d t number x rest h. h;
+  seen = λ u rest. refl;
 }
 
 pub is_drain : (cq count left : ℕ) → IsTake (Drain cq count) (Drain cq left) cq 1
@@ -359,6 +361,7 @@ is_drain cq count left = record {
   work = λ u rest h. h;
   at_work = λ u rest h. h;
   may = λ d t number x rest h. h;
+  seen = λ u rest. refl;
 }
 
 module _ (v : ThreadView) (sides : SidesView) (cq most : ℕ) (some : 0 < most) (stands : IsThread v) (found : slice_get v.program v.finished ≡ Some (Poll cq most))

@@ -149,12 +149,12 @@ module _ (d : Lines) (cq most : ℕ) (given : List Completion) (host : Consumer)
 
   -- the store of an end
   retired : (queues : List SendView) (taken : ℕ) (empty : Option ℕ) (ends : List End) (s : PollRule) (index n : ℕ) (mark : WqMark) (number : ℕ) → n ≡ number → 0 < taken → MayRetireFirst (poll_place d cq) s ends index mark e
-      → Leaves most given (store_says (OnSends n mark)) (retired_first queues taken empty ends number)
+      → Leaves most given (store_says (OnSends n mark)) seen (retired_first queues taken empty ends number)
   retired queues taken empty [] s index n mark number is some may = absurd may
   retired queues taken empty (end ∷ rest) s index n mark number is some may =
-      subst (λ (m : WqMark). Leaves most given (store_says (OnSends n m)) (after_retire queues taken empty rest number end.end)) (sym may.mark_is)
-      (subst (λ (k : ℕ). Leaves most given (Some (Retire (Send k) end.end)) (after_retire queues taken empty rest number end.end)) (sym is)
-      (retires cq most given queues taken empty rest number end.end some))
+      subst (λ (m : WqMark). Leaves most given (store_says (OnSends n m)) seen (after_retire queues taken empty rest number end.end)) (sym may.mark_is)
+      (subst (λ (k : ℕ). Leaves most given (Some (Retire (Send k) end.end)) seen (after_retire queues taken empty rest number end.end)) (sym is)
+      (retires cq most given seen queues taken empty rest number end.end some))
 
   -- the queue is that of the thread's mark
   number_is : (s : PollRule) (index : ℕ) (mark : WqMark) (at_queue : Served (poll_place d cq) s index mark e) → slice_index_or (completing d cq) index 0 ≡ at_queue.served.number
@@ -162,7 +162,7 @@ module _ (d : Lines) (cq most : ℕ) (given : List Completion) (host : Consumer)
 
   -- by how far the poll has come
   pub leaves : (state : PollState) (mark : PollMark) → IsPolling most given state → MayGoOn state (poll_place d cq) (with_state state) mark e
-      → Leaves most given (said_by d cq most given (with_state state) mark e) (poll_side_step (poll_place d cq) (with_state state) mark e)
+      → Leaves most given (said_by d cq most given (with_state state) mark e) (after_poll_side (poll_place d cq) (with_state state) mark e).seen (poll_side_step (poll_place d cq) (with_state state) mark e)
   leaves states.Idle (OnHost mark) polling may = absurd may
   leaves states.Idle (OnQueue index mark) polling may = absurd may
   leaves (states.Polling asked ends) (OnHost mark) polling may =
@@ -174,18 +174,18 @@ module _ (d : Lines) (cq most : ℕ) (given : List Completion) (host : Consumer)
       let s = with_state (states.LookingUp asked ends c queue) in
       let at_queue = serves (states.LookingUp asked ends c queue) (poll_place d cq) s index mark e may in
       let qs = queues_at (poll_place d cq).queues (retirers_by (poll_place d cq) s index mark e) in
-      subst (λ (o : Option SendView). Leaves most given (load_says cq most (given_with given (asked_with (poll_place d cq) s qs mark e o).answer) (asked_with (poll_place d cq) s qs mark e o).state) (asked_with (poll_place d cq) s qs mark e o)) (sym at_queue.found)
+      subst (λ (o : Option SendView). Leaves most given (load_says cq most (given_with given (asked_with (poll_place d cq) s qs mark e o).answer) (asked_with (poll_place d cq) s qs mark e o).state) seen (asked_with (poll_place d cq) s qs mark e o)) (sym at_queue.found)
       (looks_up cq most given qs asked ends seen polling c queue (retirer_step (is_found (served at_queue.served.place at_queue.served.side mark e))))
   leaves (states.Retiring taken empty left) (OnHost mark) polling may = absurd may
   leaves (states.Retiring taken empty left) (OnQueue index mark) polling may =
       let s = with_state (states.Retiring taken empty left) in
       let at_queue = serves (states.Retiring taken empty left) (poll_place d cq) s index mark e may in
       let qs = queues_at (poll_place d cq).queues (retirers_by (poll_place d cq) s index mark e) in
-      subst (λ (o : Option SendView). Leaves most given (store_says (to_mark d cq (OnQueue index mark))) (asked_with (poll_place d cq) s qs mark e o)) (sym at_queue.found)
+      subst (λ (o : Option SendView). Leaves most given (store_says (to_mark d cq (OnQueue index mark))) seen (asked_with (poll_place d cq) s qs mark e o)) (sym at_queue.found)
       (retired qs taken empty left.items s index (slice_index_or (completing d cq) index 0) mark at_queue.served.number (number_is s index mark at_queue) polling may)
   leaves (states.Acking taken empty) (OnHost mark) polling may =
-      subst (λ (m : QueueMark). Leaves most given (store_says (OnCompletions cq m)) (after_ack cq taken empty (acked_index (host_step e (polled (poll_place d cq).cq host m e))))) (sym may.index)
-      (acknowledges cq most given taken empty (next_index host) polling)
+      subst (λ (m : QueueMark). Leaves most given (store_says (OnCompletions cq m)) (seen_by (poll_place d cq) (with_state (states.Acking taken empty)) mark e) (after_ack cq taken empty (acked_index (host_step e (polled (poll_place d cq).cq host m e))))) (sym may.index)
+      (acknowledges cq most given (seen_by (poll_place d cq) (with_state (states.Acking taken empty)) mark e) taken empty (next_index host) polling)
   leaves (states.Acking taken empty) (OnQueue index mark) polling may = absurd may
 
 -- the host and the poll after an operation

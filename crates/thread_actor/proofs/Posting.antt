@@ -36,10 +36,6 @@ use Rattle.thread_actor.specs.View.{ThreadView, thread_of, poster_in, poll_in}
 use Rattle.thread_actor.proofs.Places.{MovesPost}
 use Rattle.thread_actor.proofs.Rising.{brings, weaken_poster, weaken_host}
 
-pub note_fits : (what : Option What) (seen : ℕ) (note : Option Note) → note ≡ option_map (λ w. note_of w seen) what → IsNoteOf what note
-note_fits None seen note is = is
-note_fits (Some what) seen note is = (seen, is)
-
 -- a queue is another one or not
 pub same_or_other : (queue other : Queue) → (other ≡ queue) ⊎ (other ≢ queue)
 same_or_other (queues.Send n) (queues.Send k) = elim (eqb_tells k n) [ inl same ↦ inl (ap (λ (i : ℕ). queues.Send i) same.1) | inr apart ↦ inr (λ is. apart.1 (ap number is)) ] where
@@ -119,11 +115,11 @@ module _ (v : ThreadView) (queue : Queue) (items : List Item) (e : BusEntry) (be
   side_is : after.poster.side ≡ post_side_poster (queue_place d queue) now e
   side_is = turn.side ∙ ap (λ (p : WqPlace). post_side_poster p (rule_of (begun before (length items))) e) is.place ∙ ap (λ (s : PostRule). post_side_poster (queue_place d queue) s e) now_is
 
-  pub post_noted : IsNoteOf (post_says d t queue items e) after.noted
-  post_noted = note_fits (post_says d t queue items e) after.poster.seen after.noted
-      (turn.noted ∙ ap (λ (p : WqPlace). post_side_note p before.queue items (rule_of (begun before (length items))) e after.poster.seen) is.place
+  pub post_noted : IsNoteOf (post_says d t queue items e) after.poster.seen after.noted
+  post_noted =
+      turn.noted ∙ ap (λ (p : WqPlace). post_side_note p before.queue items (rule_of (begun before (length items))) e after.poster.seen) is.place
       ∙ ap (λ (q : Queue). post_side_note (queue_place d queue) q items (rule_of (begun before (length items))) e after.poster.seen) is.queue_is
-      ∙ ap (λ (s : PostRule). post_side_note (queue_place d queue) queue items s e after.poster.seen) now_is)
+      ∙ ap (λ (s : PostRule). post_side_note (queue_place d queue) queue items s e after.poster.seen) now_is
 
   module _ (v' : ThreadView) (same_lines : v'.lines ≡ v.lines) (moves : MovesPost v.sides v'.sides queue before after) where
     -- each poster after it

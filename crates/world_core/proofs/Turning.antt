@@ -28,8 +28,8 @@ use Rattle.actor_rules.specs.Thread.{Thread}
 use Rattle.actor_rules.proofs.Threading.{put_here, put_there}
 use Rattle.scenario_text.specs.declared.scenario.ScenarioParts.{ScenarioParts}
 use Rattle.thread_actor.specs.Small.{IsPosterBelow, IsHostBelow, IsBelow}
-use Rattle.thread_actor.specs.Turn.{marked, IsNoteOf}
-use Rattle.thread_actor.specs.View.{ThreadView, thread_of}
+use Rattle.thread_actor.specs.Turn.{marked, IsNoteOf, seen_in}
+use Rattle.thread_actor.specs.View.{ThreadView, thread_of, calls_left}
 use Rattle.thread_actor.proofs.Places.{set_here, set_there}
 use Rattle.noted_history.specs.declared.log.TurnResult.{TurnResult as MadeBy}
 use Rattle.noted_history.specs.declared.log.TurnResult.TheVariants.{Nothing}
@@ -170,9 +170,9 @@ module _ (s : ScenarioParts) (old new : RunView) (h : Holds s old) (m : AdapterM
 
 -- A thread that goes on
 
-thread_fits : (actor : ℕ) (said : Option What) (note : Option Note) → IsNoteOf said note → Fits actor (option_map (by actor) said) note
-thread_fits actor None n is = is
-thread_fits actor (Some what) n is = (refl, is.0, is.1)
+thread_fits : (actor : ℕ) (said : Option What) (seen : ℕ) (note : Option Note) → IsNoteOf said seen note → Fits actor (option_map (by actor) said) note
+thread_fits actor None seen n is = is
+thread_fits actor (Some what) seen n is = (refl, seen, is)
 
 module _ (s : ScenarioParts) (old new : RunView) (t : ℕ) (h : Holds s old) (m : ThreadMoves old new t) where
   abbrev before_all : Actors
@@ -197,8 +197,8 @@ module _ (s : ScenarioParts) (old new : RunView) (t : ℕ) (h : Holds s old) (m 
 
   fits_thread : Fits (suc t) (says s.lines before_all y) m.note
   fits_thread = subst (λ (k : ℕ). Fits (suc t) (said_by s.lines before_all k y) m.note) (sym m.by)
-      (thread_fits (suc t) (thread_says s.lines (before_all.threads (suc t)) y) m.note
-      (thread_is (λ (d : Lines) (r : Thread). IsNoteOf (thread_says d r y) m.note) m.turn.noted))
+      (thread_fits (suc t) (thread_says s.lines (before_all.threads (suc t)) y) (seen_in m.after (calls_left m.before)) m.note
+      (thread_is (λ (d : Lines) (r : Thread). IsNoteOf (thread_says d r y) (seen_in m.after (calls_left m.before)) m.note) m.turn.noted))
 
   now_all : actors_after s.lines s.programs (h.trace ++ y ∷ []) ≡ after_by s.lines before_all (suc t) y
   now_all = actors_more s h.trace y (suc t) m.by
