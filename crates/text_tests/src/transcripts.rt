@@ -1,4 +1,8 @@
 //! Lines of a transcript that no example has.
+ghost use Rattle.std.specs.Prelude.{All};
+ghost use Rattle.sample_objects.specs.Pair.{lines_of, pair_of};
+ghost use Rattle.transcript_text.specs.Numbers.{IsCompletion, IsEntry};
+ghost use Rattle.transcript_text.specs.Trace.{IsOperation};
 
 use bus_core::{BusEntry, BusOp};
 use sample_objects::{RECV, SEND, nop_completion, one_pair};
@@ -91,7 +95,9 @@ fn others(alloc: Global) -> [Item; 5] {
     ]
 }
 
-fn posted(items: Vec<Item>) -> Entry {
+fn posted(items: Vec<Item>) -> Entry
+    ensures { IsEntry (lines_of (pair_of 2 0 1)) result }
+{
     Entry {
         actor: 1,
         what: What::Post {
@@ -99,6 +105,15 @@ fn posted(items: Vec<Item>) -> Entry {
             items: Sequence::from_vec(items),
         },
     }
+}
+
+/// The text of a history of one entry.
+fn printed(alloc: Global, entry: Entry) -> Result<Vec<u8>, Fail>
+    requires { IsEntry (lines_of (pair_of 2 0 1)) entry }
+{
+    let declared = one_pair(alloc)?;
+    let history = [entry];
+    Ok(print_history(alloc, &declared, &history)?)
 }
 
 const OPERATIONS: &[u8] = b"
@@ -114,15 +129,13 @@ end 1
 
 #[test]
 fn each_operation_has_its_word(rt: HostRuntime) -> Result<(), Fail> {
-    let declared = one_pair(rt.alloc())?;
     let mut items = Vec::new(rt.alloc());
     items.push(send(rt.alloc())?)?;
     items.push(send_with_immediate(rt.alloc())?)?;
     for item in others(rt.alloc()) {
         items.push(item)?;
     }
-    let history = [posted(items)];
-    let text = print_history(rt.alloc(), &declared, &history)?;
+    let text = printed(rt.alloc(), posted(items))?;
     assert!(rt; text.as_slice().ends_with(OPERATIONS));
     Ok(())
 }
@@ -150,7 +163,10 @@ const FLUSHED: Completion = Completion {
     solicited: true,
 };
 
-fn polled(completions: Vec<Completion>) -> Entry {
+fn polled(completions: Vec<Completion>) -> Entry
+    requires { All (IsCompletion (lines_of (pair_of 2 0 1))) completions.items }
+    ensures { IsEntry (lines_of (pair_of 2 0 1)) result }
+{
     Entry {
         actor: CONTROL,
         what: What::Poll {
@@ -168,10 +184,9 @@ end 1
 
 #[test]
 fn completions_have_their_parts(rt: HostRuntime) -> Result<(), Fail> {
-    let declared = one_pair(rt.alloc())?;
     let completions = [RECEIVED, FLUSHED, nop_completion(8)];
-    let history = [polled(Vec::from_array(rt.alloc(), completions)?)];
-    let text = print_history(rt.alloc(), &declared, &history)?;
+    let completions = Vec::from_array(rt.alloc(), completions)?;
+    let text = printed(rt.alloc(), polled(completions))?;
     assert!(rt; text.as_slice().ends_with(COMPLETIONS));
     Ok(())
 }
