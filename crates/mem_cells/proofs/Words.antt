@@ -1,6 +1,6 @@
 -- The words of cells, where they lie, and values that are changed at one key.
-use Rattle.std.proofs.Common.{◌≡◌, ◌≢◌, ℕ, ◌+◌, ◌<◌, ◌≤◌, arith, true, eqb, leb, ltb}
-use Rattle.std.proofs.lemmas.Bool.{and_parts, and_from, le-leb, lt-ltb, leb-true, ltb-true, cond-true, cond-false, eq-eqb, ne_eqb}
+use Rattle.std.proofs.Common.{◌≡◌, ◌≢◌, ℕ, ◌+◌, ◌<◌, ◌≤◌, ◌⊎◌, inl, inr, arith, true, false, eqb, leb, ltb}
+use Rattle.std.proofs.lemmas.Bool.{and_parts, and_from, and_left, and_right, le-leb, lt-leb, le-ltb, lt-ltb, leb-true, ltb-true, cond-true, cond-false, eq-eqb, ne_eqb}
 use Rattle.mem_cells.specs.Cell.{word_of, cell_of}
 use Rattle.mem_cells.specs.Place.{ArenaPlace, cell_at, touches}
 use Rattle.mem_cells.specs.Arena.{put}
@@ -19,6 +19,12 @@ pub touched : (place : ArenaPlace) (address : ℕ) → touches place address ≡
 touched place address h =
     let both = and_parts (leb place.first address) (ltb address (place.first + place.cells)) h in
     (leb-true place.first address both.0, ltb-true address (place.first + place.cells) both.1)
+
+pub untouched : (place : ArenaPlace) (address : ℕ) → (address < place.first) ⊎ (place.first + place.cells ≤ address) → touches place address ≡ false
+untouched place address outside = elim outside [
+  | inl below ↦ and_left (leb place.first address) (ltb address (place.first + place.cells)) (lt-leb place.first address below)
+  | inr above ↦ and_right (leb place.first address) (ltb address (place.first + place.cells)) (le-ltb address (place.first + place.cells) above)
+]
 
 pub put_here : {X : Type 0} (key k : ℕ) (x : X) (values : ℕ → X) → key ≡ k → put key x values k ≡ x
 put_here key k x values same = cond-true (eqb key k) x (values k) (eq-eqb key k same)
