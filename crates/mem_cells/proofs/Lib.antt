@@ -1,0 +1,9 @@
+pub mod Words
+pub mod Tied
+pub mod UserStep
+pub mod Users
+pub mod Law
+pub mod Says
+pub mod Histories
+pub mod Kept
+pub mod Later

@@ -1,0 +1,9 @@
+pub mod Cell
+pub mod Place
+pub mod Arena
+pub mod Keeps
+pub mod Mark
+pub mod User
+pub mod Law
+pub mod Turn
+pub mod UserInside

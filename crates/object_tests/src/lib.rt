@@ -1,0 +1,7 @@
+//! Examples of use of the objects of the interface, each with worked values.
+#![tactic(auto)]
+
+#[cfg(test)]
+mod cells;
+#[cfg(test)]
+mod start_order;
