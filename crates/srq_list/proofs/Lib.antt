@@ -1,0 +1,15 @@
+pub mod ReadWords
+pub mod Slots
+pub mod Shape
+pub mod Tied
+pub mod Moved
+pub mod DeviceStep
+pub mod FreerStep
+pub mod PosterStep
+pub mod Users
+pub mod Asking
+pub mod Law
+pub mod FreeChain
+pub mod SharesSlots
+pub mod Kept
+pub mod KeptReceives
