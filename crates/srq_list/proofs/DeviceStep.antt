@@ -1,5 +1,5 @@
 -- One operation of the device keeps what ties words, users and list, and what it says is a step of the list.
-use Rattle.std.proofs.Common.{◌≡◌, ◌≢◌, ℕ, ◌+◌, ◌-◌, ◌^◌, ◌<◌, ◌≤◌, inl, inr, refl, ap, sym, ◌∙◌, subst, arith, Bool, true, false, cond, eqb, List, [], ◌∷◌, ◌++◌, length, get_or, take, Option, Some, None, length-append}
+use Rattle.std.proofs.Common.{◌≡◌, ◌≢◌, ℕ, ◌+◌, ◌-◌, ◌^◌, ◌<◌, inl, inr, refl, ap, sym, ◌∙◌, arith, cond, eqb, List, [], ◌∷◌, ◌++◌, length, get_or, take, Option, Some, length-append}
 use Rattle.std.proofs.Math.Seq.{take-length}
 use Rattle.std.proofs.lemmas.Bool.{cases_Bool, eqb-true, eqb-false}
 use Rattle.std.proofs.lemmas.List.{take_more}
@@ -10,7 +10,7 @@ use Rattle.bus_core.specs.Trace.{Memory, after_entry, Tells}
 use Rattle.bus_core.proofs.Words.{load_keeps, load_tells}
 use Rattle.srq_list.specs.declared.place.SrqPlace.{SrqPlace}
 use Rattle.srq_list.specs.Place.{IsPlace, entry_words, next_at, entry_at, next_of, record_of, shown}
-use Rattle.srq_list.specs.Queue.{SharedQueue, SrqEvent, Showed, NoneThere, Took, MayTake, slot_at, after_event}
+use Rattle.srq_list.specs.Queue.{SharedQueue, SrqEvent, Showed, NoneThere, Took, MayTake, after_event}
 use Rattle.srq_list.specs.Mark.{SrqMark, Begin, Fill, Ring, Lookup, Link, Free, Take, Foreign}
 use Rattle.srq_list.specs.Poster.{Poster}
 use Rattle.srq_list.specs.Freer.{Freer}
@@ -22,7 +22,7 @@ use Rattle.srq_list.proofs.Moved.{PosterFits_moved}
 
 module _ (place : SrqPlace) (start : ℕ) (m : Memory) (p : Poster) (f : Freer) (d : Taker) (q : SharedQueue) (ok : IsPlace place) (t : Tied place start m p f d q) where
   -- the record shows all that was rung
-  ready_is : (word : ℕ) → word ≡ m place.dbr → ready start d word ≡ q.rung - q.taken
+  pub ready_is : (word : ℕ) → word ≡ m place.dbr → ready start d word ≡ q.rung - q.taken
   ready_is word is =
       let near : q.rung < q.taken + 2 ^ 16 = omega (arith, t.shape.rung, t.shape.room, window place q t.shape, few_slots place ok) in
       ap (λ n. shown (record_of start n) word) t.taker.taken ∙ shown_is start q.taken q.rung word t.shape.taken near (is ∙ t.recorded)

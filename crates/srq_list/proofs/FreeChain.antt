@@ -1,5 +1,5 @@
 -- The free slots are those from the head to the tail word.
-use Rattle.std.proofs.Common.{◌≡◌, ℕ, zero, suc, ◌+◌, ◌-◌, ◌<◌, ◌≤◌, refl, ap, sym, ◌∙◌, subst, arith, List, [], ◌∷◌, length, get_or, drop, drop-cons, length-drop}
+use Rattle.std.proofs.Common.{◌≡◌, ℕ, zero, suc, ◌+◌, ◌-◌, ◌<◌, ◌≤◌, ap, sym, ◌∙◌, subst, arith, List, [], ◌∷◌, length, drop, drop-cons}
 use Rattle.std.proofs.lemmas.List.{drop_all}
 use Rattle.bus_core.specs.Mark.{Marked, entries}
 use Rattle.bus_core.specs.Trace.{Memory, memory_after}

@@ -1,21 +1,21 @@
 -- One operation of the freer keeps what ties words, users and list, and what it says is a step of the list.
-use Rattle.std.proofs.Common.{◌≡◌, ◌≢◌, ℕ, ◌+◌, ◌-◌, ◌<◌, ◌≤◌, inl, inr, refl, ap, sym, ◌∙◌, subst, arith, length, Option, Some, None}
+use Rattle.std.proofs.Common.{◌≡◌, ◌≢◌, ℕ, ◌+◌, ◌-◌, ◌<◌, ◌≤◌, inl, inr, refl, ap, sym, ◌∙◌, subst, arith, length, Some, None}
 use Rattle.std.proofs.lemmas.Bool.{cases_lt}
 use Rattle.std.proofs.lemmas.Option.{slice_get-get_or}
 use Rattle.bus_core.specs.declared.operation.BusEntry.{BusEntry}
-use Rattle.bus_core.specs.Operation.{IsStore, loaded}
+use Rattle.bus_core.specs.Operation.{loaded}
 use Rattle.bus_core.specs.Trace.{Memory, after_entry, Tells}
 use Rattle.bus_core.proofs.Words.{elsewhere, load_keeps, load_tells, store_leaves}
 use Rattle.srq_list.specs.declared.place.SrqPlace.{SrqPlace}
 use Rattle.srq_list.specs.Place.{IsPlace, size, entry_words, next_at, entry_at, id_at, link_word, next_of}
-use Rattle.srq_list.specs.Queue.{SharedQueue, Found, Freed, slot_at, IsHeld, MayFind, after_event}
+use Rattle.srq_list.specs.Queue.{SharedQueue, slot_at, IsHeld, MayFind}
 use Rattle.srq_list.specs.Mark.{SrqMark, Begin, Fill, Ring, Lookup, Link, Free, Take, Foreign}
 use Rattle.srq_list.specs.Poster.{Poster}
 use Rattle.srq_list.specs.Freer.{Freer, MayServe, after_serve, serve_says}
 use Rattle.srq_list.specs.Device.{Taker}
 use Rattle.srq_list.proofs.Slots.{next_is, next_below, entry_below, id_low, id_below, entry_not_next, nexts_differ}
 use Rattle.srq_list.proofs.Shape.{nothing, receive_of, held_low, longer, count_longer, slot_before, slot_last, kept_before, shape_freed}
-use Rattle.srq_list.proofs.Tied.{Tied, Tied_kept, Tied_freer, Goes, Asks, LinkFits, Holds, Holds_kept, Stored, Stored_kept, Linked, PosterFits_kept, last_slot}
+use Rattle.srq_list.proofs.Tied.{Tied, Tied_kept, Goes, Asks, LinkFits, Holds, Holds_kept, Stored_kept, PosterFits_kept, last_slot}
 use Rattle.srq_list.proofs.Moved.{PosterFits_moved, TakerFits_moved}
 
 module _ (place : SrqPlace) (start : ℕ) (m : Memory) (p : Poster) (f : Freer) (d : Taker) (q : SharedQueue) (ok : IsPlace place) (t : Tied place start m p f d q) where

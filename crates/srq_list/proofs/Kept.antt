@@ -1,19 +1,19 @@
 -- What a legal history of a list says of its receives.
-use Rattle.std.proofs.Common.{◌≡◌, ◌≢◌, ℕ, ◌+◌, ◌-◌, ◌<◌, ◌≤◌, inl, inr, refl, ap, sym, ◌∙◌, subst, arith, true, false, List, [], ◌∷◌, ◌++◌, length, get_or, take, Some, length-append, append_assoc}
-use Rattle.std.specs.Prelude.{filter, slice_get}
+use Rattle.std.proofs.Common.{◌≡◌, ℕ, ◌+◌, ◌<◌, inl, inr, refl, ap, sym, ◌∙◌, subst, arith, false, List, [], ◌∷◌, ◌++◌, length, get_or, take, length-append, append_assoc}
+use Rattle.std.specs.Prelude.{filter}
 use Rattle.std.specs.List.{Contains}
 use Rattle.std.proofs.Math.Seq.{take-append-add}
 use Rattle.std.proofs.lemmas.Bool.{cases_lt}
-use Rattle.std.proofs.lemmas.List.{append-nil, get_or-take, get_or_append_left, length-take-le}
+use Rattle.std.proofs.lemmas.List.{append-nil, get_or-take, length-take-le}
 use Rattle.std.proofs.lemmas.List.Elements.{Contains-push_cases}
 use Rattle.std.proofs.lemmas.List.FromFn.{length-range_with_len}
-use Rattle.std.proofs.lemmas.Option.{slice_get-get_or, get_or_from_slice_get}
+use Rattle.std.proofs.lemmas.Option.{get_or_from_slice_get}
 use Rattle.bus_core.proofs.Following.{fold-push}
 use Rattle.bus_core.proofs.Lists.{filter_takes_last, filter_skips_last}
 use Rattle.srq_list.specs.declared.place.SrqPlace.{SrqPlace}
 use Rattle.srq_list.specs.Place.{size}
 use Rattle.srq_list.specs.Queue.{Receive, SharedQueue, SrqEvent, Began, Full, Wrote, Rang, Found, Freed, Showed, NoneThere, Took, empty_queue, slot_at, IsKept, IsPending, MayTake, MayHappen, after_event, IsLegal, cut}
-use Rattle.srq_list.specs.Kept.{Posts, after_posts, posts, posted, is_take, takes, is_free, frees}
+use Rattle.srq_list.specs.Kept.{Posts, after_posts, posts, is_take, takes, is_free, frees}
 use Rattle.srq_list.proofs.Shape.{Shape, nothing, receive_of, pending_low, shape_step, empty_shape, receive_before, count_longer, slot_before, slot_last, kept_before}
 
 -- the take of receive n, and that its slot was not freed since where the chain shows that

@@ -1,5 +1,5 @@
 -- The law of receives: what each event of a legal history says of the events before it.
-use Rattle.std.proofs.Common.{◌≡◌, ◌≢◌, ◌⊎◌, ℕ, ◌+◌, ◌-◌, ◌<◌, ◌≤◌, inl, inr, refl, ap, sym, ◌∙◌, subst, arith, List, [], ◌∷◌, ◌++◌, length, get_or, Some}
+use Rattle.std.proofs.Common.{◌≡◌, ◌≢◌, ◌⊎◌, ℕ, ◌<◌, ◌≤◌, inl, inr, refl, ap, sym, ◌∙◌, subst, arith, List, [], ◌∷◌, ◌++◌, length, get_or, Some}
 use Rattle.std.specs.Prelude.{slice_get}
 use Rattle.std.specs.List.{Contains}
 use Rattle.std.proofs.lemmas.Bool.{cases_lt, cases_eq}
@@ -8,7 +8,7 @@ use Rattle.std.proofs.lemmas.List.Elements.{Contains-append_right}
 use Rattle.std.proofs.lemmas.Option.{slice_get-get_or, get_or_from_slice_get}
 use Rattle.srq_list.specs.declared.place.SrqPlace.{SrqPlace}
 use Rattle.srq_list.specs.Queue.{Receive, SharedQueue, SrqEvent, Began, Full, Wrote, Rang, Found, Freed, Showed, NoneThere, Took, slot_at, IsHeld, MayTake, after_event, IsLegal}
-use Rattle.srq_list.specs.Kept.{posts, posted, WasTaken, WasPosted, KeepsReceives}
+use Rattle.srq_list.specs.Kept.{posts, posted, WasTaken, KeepsReceives}
 use Rattle.srq_list.proofs.Slots.{some_slots}
 use Rattle.srq_list.proofs.Shape.{Shape, nothing, receive_of, shape_step, count_longer, slot_before, slot_last}
 use Rattle.srq_list.proofs.Kept.{Kept, from_start}

@@ -13,3 +13,7 @@ pub mod FreeChain
 pub mod SharesSlots
 pub mod Kept
 pub mod KeptReceives
+pub mod Says
+pub mod Knowing
+pub mod Dropped
+pub mod Seen

@@ -1,5 +1,5 @@
 -- One operation of the poster keeps what ties words, users and list, and what it says is a step of the list.
-use Rattle.std.proofs.Common.{◌≡◌, ◌≢◌, ℕ, ◌+◌, ◌-◌, ◌<◌, ◌≤◌, inl, inr, refl, ap, sym, ◌∙◌, subst, arith, Bool, true, false, cond, eqb, List, [], ◌∷◌, ◌++◌, length, get_or, take, Option, Some, None, length-append}
+use Rattle.std.proofs.Common.{◌≡◌, ◌≢◌, ℕ, ◌+◌, ◌-◌, ◌<◌, ◌≤◌, inl, inr, refl, ap, sym, ◌∙◌, subst, arith, cond, eqb, List, [], ◌∷◌, ◌++◌, length, take, Option, Some, length-append}
 use Rattle.std.proofs.lemmas.Bool.{cases_Bool, cases_lt, eqb-true, eqb-false}
 use Rattle.std.proofs.lemmas.List.{get_or_push, get_or_append_left, get_or-take, length-take-le}
 use Rattle.bus_core.specs.declared.operation.BusEntry.{BusEntry}
@@ -8,14 +8,14 @@ use Rattle.bus_core.specs.Trace.{Memory, after_entry, Tells}
 use Rattle.bus_core.proofs.Words.{elsewhere, load_keeps, load_tells, store_leaves}
 use Rattle.srq_list.specs.declared.place.SrqPlace.{SrqPlace}
 use Rattle.srq_list.specs.Place.{IsPlace, size, entry_words, next_at, entry_at, id_at, next_of, record_of}
-use Rattle.srq_list.specs.Queue.{Receive, SharedQueue, SrqEvent, Began, Full, Wrote, Rang, slot_at, IsPending, MayWrite, after_event}
+use Rattle.srq_list.specs.Queue.{Receive, SharedQueue, SrqEvent, Began, Full, Wrote, Rang, slot_at, IsPending, MayWrite}
 use Rattle.srq_list.specs.Mark.{SrqMark, Begin, Fill, Ring, Lookup, Link, Free, Take, Foreign}
 use Rattle.srq_list.specs.Poster.{Poster, Stage, Ready, Following, Storing, Naming, at_stage, IsBehind, MayFill, MayPost, stage_with, after_fill, after_post, fill_says, post_says}
 use Rattle.srq_list.specs.Freer.{Freer}
 use Rattle.srq_list.specs.Device.{Taker}
 use Rattle.srq_list.proofs.Slots.{next_below, entry_below, id_low, id_below, entry_not_next, entries_differ, ids_differ}
-use Rattle.srq_list.proofs.Shape.{Shape, nothing, receive_of, kept, pending_low, shape_cut, wrote, count_wrote, receive_before, receive_last, shape_wrote}
-use Rattle.srq_list.proofs.Tied.{Tied, Tied_kept, Tied_poster, Goes, Holds, Holds_kept, Stored, Stored_kept, Linked, Linked_kept, Fills, IsPart, IsAll, StageFits, PosterFits, FreerFits_kept, last_slot}
+use Rattle.srq_list.proofs.Shape.{nothing, receive_of, pending_low, shape_cut, wrote, count_wrote, receive_before, receive_last, shape_wrote}
+use Rattle.srq_list.proofs.Tied.{Tied, Tied_kept, Tied_poster, Goes, Holds, Holds_kept, Stored, Linked_kept, Fills, IsPart, IsAll, StageFits, PosterFits, FreerFits_kept, last_slot}
 use Rattle.srq_list.proofs.Moved.{TakerFits_moved}
 
 -- a post, or a ring, behind so many receives that were not rung
@@ -35,16 +35,16 @@ module _ (place : SrqPlace) (start : ℕ) (m : Memory) (p : Poster) (f : Freer) 
 
   -- the receives behind these ones are dropped, and these ones may be rung
   module _ (m' : Memory) (rung : ℕ) (p' : Poster) (low : q.rung ≤ rung) (high : rung ≤ q.rung + pending) where
-    abbrev left : SharedQueue
+    abbrev pub left : SharedQueue
     left = record { chain = q.chain; receives = take (q.rung + pending) q.receives; rung = rung; taken = q.taken }
 
-    count_left : length left.receives ≡ q.rung + pending
+    pub count_left : length left.receives ≡ q.rung + pending
     count_left = length-take-le (q.rung + pending) q.receives count_low
 
     receive_left : (n : ℕ) → n < q.rung + pending → receive_of left n ≡ receive_of q n
     receive_left n inside = get_or-take (q.rung + pending) q.receives n nothing inside
 
-    tied_left : ((a : ℕ) → place.dbr ≢ a → m' a ≡ m a) → IsPlace place → m' place.dbr ≡ record_of start rung → PosterFits place m' left p' → Tied place start m' p' f d left
+    pub tied_left : ((a : ℕ) → place.dbr ≢ a → m' a ≡ m a) → IsPlace place → m' place.dbr ≡ record_of start rung → PosterFits place m' left p' → Tied place start m' p' f d left
     tied_left other ok here fits =
         let low_words = λ (a : ℕ) (below : a < place.dbr). other a (λ e. omega (arith, e, below)) in
         let next = λ (x : ℕ). low_words (next_at place x) (omega (arith, next_below place ok x, ok.ids_next)) in

@@ -1,8 +1,8 @@
 -- The words that a device has read of an entry, and one more.
-use Rattle.std.proofs.Common.{◌≡◌, ◌≢◌, ℕ, ◌+◌, ◌-◌, ◌<◌, ◌≤◌, suc, refl, ap, sym, ◌∙◌, subst, arith, eqb, true, false, List, [], ◌∷◌, ◌++◌, length, take, replicate, set, length-append, append_assoc}
+use Rattle.std.proofs.Common.{◌≡◌, ℕ, ◌+◌, ◌-◌, ◌<◌, suc, refl, ap, sym, ◌∙◌, subst, arith, eqb, true, false, List, [], ◌∷◌, ◌++◌, length, take, replicate, set, length-append, append_assoc}
 use Rattle.std.specs.Prelude.{slice_set}
 use Rattle.std.proofs.Math.Seq.{set-append_seam}
-use Rattle.std.proofs.lemmas.List.{length-take-le, length-set, take_more_set}
+use Rattle.std.proofs.lemmas.List.{length-take-le, take_more_set}
 use Rattle.std.proofs.lemmas.Bool.{eq-eqb}
 use Rattle.bus_core.specs.declared.operation.BusEntry.{BusEntry}
 use Rattle.bus_core.specs.declared.turn.Step.TheVariants.{Done}

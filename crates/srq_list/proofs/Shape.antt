@@ -1,6 +1,5 @@
 -- What holds of a queue's list alone: its counts stand in order, each receive lies at its slot of the chain, and from the taken ones on no slot stands there twice.
-use Rattle.std.proofs.Common.{◌≡◌, ◌≢◌, ℕ, ◌+◌, ◌-◌, ◌<◌, ◌≤◌, inl, inr, refl, ap, sym, ◌∙◌, subst, arith, suc, eqb, true, false, List, [], ◌∷◌, ◌++◌, length, get_or, take, drop, length-append, length-drop}
-use Rattle.std.specs.Prelude.{slice_index}
+use Rattle.std.proofs.Common.{◌≡◌, ◌≢◌, ℕ, ◌+◌, ◌-◌, ◌<◌, ◌≤◌, inl, inr, ap, sym, ◌∙◌, subst, arith, suc, eqb, true, false, List, [], ◌∷◌, length, get_or, take, drop, length-append, length-drop}
 use Rattle.std.specs.List.{range_with_len, list_any}
 use Rattle.std.proofs.lemmas.List.{get_or_push, get_or_append_left, get_or_default, get_or-take, get_or-drop, length-take-le}
 use Rattle.std.proofs.lemmas.List.FromFn.{length-range_with_len, get_or-range_with_len}

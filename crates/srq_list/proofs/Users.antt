@@ -1,17 +1,13 @@
 -- The three users' own lists keep their rules, so each operation of a trace keeps that of whoever makes it.
-use Rattle.std.proofs.Common.{◌≡◌, ◌≢◌, ℕ, inl, inr, refl, sym, ◌∙◌, true, List}
-use Rattle.std.specs.Prelude.{filter}
-use Rattle.std.proofs.lemmas.Bool.{cond-true}
-use Rattle.bus_core.specs.declared.operation.BusEntry.{BusEntry}
+use Rattle.std.proofs.Common.{◌≡◌, ◌≢◌, ℕ, inl, inr, refl, List}
 use Rattle.bus_core.specs.Follow.{Follows}
 use Rattle.bus_core.specs.Mark.{Marked}
 use Rattle.bus_core.specs.Trace.{Memory}
 use Rattle.bus_core.specs.Weave.{TellsApart}
-use Rattle.bus_core.proofs.Following.{Follows_weaker, Follows_All}
+use Rattle.bus_core.proofs.Following.{Follows_All}
 use Rattle.bus_core.proofs.Weaving.{woven}
 use Rattle.srq_list.specs.declared.place.SrqPlace.{SrqPlace}
-use Rattle.srq_list.specs.Place.{touches}
-use Rattle.srq_list.specs.Mark.{SrqMark, User, Posting, Freeing, Taking, Watching, is_user, user_of}
+use Rattle.srq_list.specs.Mark.{SrqMark, User, Posting, Freeing, Taking, Watching, is_user}
 use Rattle.srq_list.specs.Poster.{Poster, MayPost, after_post}
 use Rattle.srq_list.specs.Freer.{Freer, MayServe, after_serve}
 use Rattle.srq_list.specs.Device.{Taker, MayTakeBy, after_take}

@@ -2,7 +2,7 @@
 use Rattle.std.specs.Prelude.{ℕ, ◌≡◌, ◌<◌, true, Option, Some, None}
 use Rattle.bus_core.specs.declared.operation.BusEntry.{BusEntry}
 use Rattle.bus_core.specs.declared.turn.Step.{Step}
-use Rattle.bus_core.specs.declared.turn.Step.TheVariants.{More, Gave, Done}
+use Rattle.bus_core.specs.declared.turn.Step.TheVariants.{More, Done}
 use Rattle.bus_core.specs.Operation.{loaded}
 use Rattle.srq_list.specs.declared.place.SrqPlace.{SrqPlace}
 use Rattle.srq_list.specs.declared.freer.SrqFreed.{SrqFreed}

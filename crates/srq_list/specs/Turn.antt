@@ -1,5 +1,5 @@
 -- What a turn of any user of a shared receive queue asks of its port, and what it leaves of a task.
-use Rattle.std.specs.Prelude.{ℕ, ◌<◌, Option, Some, None}
+use Rattle.std.specs.Prelude.{ℕ, ◌<◌, Option, None}
 use Rattle.bus_core.specs.declared.turn.Note.{Note}
 use Rattle.bus_core.specs.declared.turn.Step.{Step}
 use Rattle.bus_core.specs.declared.turn.Step.TheVariants.{More, Gave, Done}

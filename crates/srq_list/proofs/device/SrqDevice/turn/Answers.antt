@@ -1,4 +1,4 @@
-use Rattle.std.proofs.Common.{◌≡◌, ◌+◌, ◌<◌, ◌≤◌, refl, ap, sym, ◌∙◌, subst, arith, length, Some}
+use Rattle.std.proofs.Common.{◌≡◌, ◌+◌, refl, ap, sym, ◌∙◌, subst, arith, length, Some}
 use Rattle.bus_core.specs.Port.{made}
 use Rattle.bus_core.specs.declared.operation.BusOp.TheVariants.{Load}
 use Rattle.srq_list.specs.declared.device.Phase.{Phase}
