@@ -4,4 +4,6 @@
 #[cfg(test)]
 mod cells;
 #[cfg(test)]
+mod shared_receives;
+#[cfg(test)]
 mod start_order;

@@ -1,0 +1,16 @@
+pub mod Place
+pub mod Mark
+pub mod Queue
+pub mod Poster
+pub mod Freer
+pub mod Device
+pub mod Turn
+pub mod PosterView
+pub mod PosterInside
+pub mod FreerView
+pub mod FreerInside
+pub mod DeviceView
+pub mod DeviceInside
+pub mod Law
+pub mod Chain
+pub mod Kept
