@@ -15,6 +15,7 @@ use Rattle.actor_rules.specs.Ready.{AreReady}
 use Rattle.actor_rules.specs.Run.{IsRun, IsHistory, history}
 use Rattle.actor_rules.proofs.Woven.{own_keep}
 use Rattle.operation_bounds.specs.Run.{IsBoundedRun}
+use Rattle.marked_stores.specs.Stores.{SayEntries}
 use Rattle.scenario_text.specs.declared.scenario.ScenarioParts.{ScenarioParts}
 use Rattle.scenario_text.specs.Running.{CanRun}
 use Rattle.ready_scenarios.specs.Ready.{IsReady, bounds_of}
@@ -25,12 +26,12 @@ use Rattle.world_core.specs.Holding.{actor_of, Holds}
 use Rattle.world_core.specs.Outcome.{IsOutcome, marks_of}
 use Rattle.world_core.specs.Run.{RunView}
 
--- what the laws say
-abbrev pub Law : Type 0
-Law = (d : Lines) (programs : List (List Call)) (bounds : Bounds) (trace : List (Marked Mark)) → AreReady d programs bounds → IsRun d programs trace → IsHistory d programs (history d programs trace)
+-- a law of every run of programs that are ready
+abbrev pub LawOf : (Lines → List (List Call) → List (Marked Mark) → Type 0) → Type 0
+LawOf Claim = (d : Lines) (programs : List (List Call)) (bounds : Bounds) (trace : List (Marked Mark)) → AreReady d programs bounds → IsRun d programs trace → Claim d programs trace
 
-abbrev pub BoundLaw : Type 0
-BoundLaw = (d : Lines) (programs : List (List Call)) (bounds : Bounds) (trace : List (Marked Mark)) → AreReady d programs bounds → IsRun d programs trace → IsBoundedRun d programs trace
+abbrev pub HasLegalHistory : Lines → List (List Call) → List (Marked Mark) → Type 0
+HasLegalHistory d programs trace = IsHistory d programs (history d programs trace)
 
 abbrev pub ReadyLaw : Type 0
 ReadyLaw = (s : ScenarioParts) → CanRun s → IsReady s
@@ -43,12 +44,9 @@ module _ (s : ScenarioParts) (v : RunView) (h : Holds s v) (consistent : IsConsi
     keeps = own_keep s.lines h.trace (fresh_actors s.lines s.programs) h.made.keeps;
   }
 
-  -- by the law of all actors
-  pub history_is_legal : Law → ReadyLaw → CanRun s → IsHistory s.lines s.programs (history s.lines s.programs h.trace)
-  history_is_legal law ready can = law s.lines s.programs (bounds_of s.lines s.programs) h.trace (ready s can).law run_is
-
-  pub run_is_bounded : BoundLaw → ReadyLaw → CanRun s → IsBoundedRun s.lines s.programs h.trace
-  run_is_bounded law ready can = law s.lines s.programs (bounds_of s.lines s.programs) h.trace (ready s can).law run_is
+  -- what a law says of this run
+  pub by_law : (Claim : Lines → List (List Call) → List (Marked Mark) → Type 0) → LawOf Claim → ReadyLaw → CanRun s → Claim s.lines s.programs h.trace
+  by_law Claim law ready can = law s.lines s.programs (bounds_of s.lines s.programs) h.trace (ready s can).law run_is
 
   module _ (legal : IsHistory s.lines s.programs (history s.lines s.programs h.trace)) where
     pub told : (first : Verbs) (programs : List (List Call)) → first ≡ start s.lines → programs ≡ s.programs → HasNotes first programs v.turns (history s.lines s.programs h.trace)
@@ -57,8 +55,8 @@ module _ (s : ScenarioParts) (v : RunView) (h : Holds s v) (consistent : IsConsi
         (subst (λ (ps : List (List Call)). HasNotes (start s.lines) ps v.turns (history s.lines s.programs h.trace)) (sym programs_are)
         (record { legal = legal.legal; answered = legal.answered; notes = h.made.notes }))
 
-    pub outcome_is : (o : Outcome) → IsBoundedRun s.lines s.programs h.trace → o.trace.items ≡ v.bus.trace → o.marks.items ≡ marks_in v.turns → o.history ≡ history s.lines s.programs h.trace → IsOutcome s (map actor_of v.turns) o
-    outcome_is o bounded trace marks told_is = record {
+    pub outcome_is : (o : Outcome) → IsBoundedRun s.lines s.programs h.trace → SayEntries s.lines s.programs h.trace → o.trace.items ≡ v.bus.trace → o.marks.items ≡ marks_in v.turns → o.history ≡ history s.lines s.programs h.trace → IsOutcome s (map actor_of v.turns) o
+    outcome_is o bounded says trace marks told_is = record {
       trace = h.trace;
       operations = h.bus.operations ∙ sym trace;
       run = run_is;
@@ -66,5 +64,6 @@ module _ (s : ScenarioParts) (v : RunView) (h : Holds s v) (consistent : IsConsi
       history_is = told_is;
       marks_are = marks ∙ h.made.marks;
       bounded = bounded;
+      told = says;
       legal = subst (IsHistory s.lines s.programs) (sym told_is) legal;
     }

@@ -7,6 +7,7 @@ use Rattle.scenario_text.specs.declared.scenario.ScenarioParts.{ScenarioParts}
 use Rattle.actor_rules.specs.Actors.{Actors, fresh_actors, after, says}
 use Rattle.actor_rules.specs.Run.{IsRun, IsHistory, history}
 use Rattle.operation_bounds.specs.Run.{IsBoundedRun}
+use Rattle.marked_stores.specs.Stores.{SayEntries}
 use Rattle.world_core.specs.declared.outcome.Outcome.{Outcome}
 
 -- a thread has ended that has set its bit in the word of ended actors; the adapter never has
@@ -48,5 +49,7 @@ pub record IsOutcome (s : ScenarioParts) (turns : List ℕ) (o : Outcome) : Type
   pub marks_are : o.marks.items ≡ marks_of s.lines (fresh_actors s.lines s.programs) trace
   -- no call takes more operations than it may, and the adapter goes on
   pub bounded : IsBoundedRun s.lines s.programs trace
+  -- each store of a word in which actors take news of one another is a marked one
+  pub told : SayEntries s.lines s.programs trace
   -- it is legal, and each thread's entries are those of its calls, each once and in order
   pub legal : IsHistory s.lines s.programs o.history

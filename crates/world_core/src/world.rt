@@ -12,6 +12,7 @@ use crate::start::first_run;
 use crate::turns::times;
 use actor_rules::laws::woven;
 use device_engine::laws::counts_grow;
+use marked_stores::laws::stores_are_told;
 use noted_history::{history_of, marks_of};
 use operation_bounds::laws::run_is_bounded;
 use ready_scenarios::laws::ready;
@@ -180,6 +181,7 @@ impl World {
         ready();
         woven();
         run_is_bounded();
+        stores_are_told();
         let first = self.first;
         let turns = self.run.turns.as_slice();
         let trace = copy_of_trace(alloc, &self.run.bus)?;

@@ -10,7 +10,9 @@ use Rattle.world_core.specs.declared.outcome.Outcome.{Outcome}
 use Rattle.world_core.specs.Outcome.{IsOutcome}
 use Rattle.world_core.specs.RunInside.{run_view}
 use Rattle.world_core.specs.World.{WorldView}
-use Rattle.world_core.proofs.Finishing.{history_is_legal, run_is_bounded, told, outcome_is}
+use Rattle.operation_bounds.specs.Run.{IsBoundedRun}
+use Rattle.marked_stores.specs.Stores.{SayEntries}
+use Rattle.world_core.proofs.Finishing.{HasLegalHistory, by_law, told, outcome_is}
 use Rattle.world_core.proofs.world.World.finish.Goals as goal
 
 pub history_of-requires : goal.history_of-requires
@@ -19,7 +21,7 @@ history_of-requires c =
     let v = run_view c.self.inside.run in
     let h = c.self.invariant.holds in
     let consistent = c.copy_of_trace.ensures.consistent in
-    let legal = history_is_legal s v h consistent c.woven.ensures c.ready.ensures c.self.invariant.scenario in
+    let legal = by_law s v h consistent HasLegalHistory c.woven.ensures c.ready.ensures c.self.invariant.scenario in
     record {
       told = (
         history s.lines s.programs h.trace,
@@ -34,11 +36,12 @@ returns c =
     let v = run_view c.self.inside.run in
     let h = c.self.invariant.holds in
     let consistent = c.copy_of_trace.ensures.consistent in
-    let legal = history_is_legal s v h consistent c.woven.ensures c.ready.ensures c.self.invariant.scenario in
+    let legal = by_law s v h consistent HasLegalHistory c.woven.ensures c.ready.ensures c.self.invariant.scenario in
     let told_here : HasNotes (state_of c.self.inside.first) c.as_slice.result.now c.as_slice-turns.result.now (history s.lines s.programs h.trace) =
     subst (λ (turns : List TurnRecord). HasNotes (state_of c.self.inside.first) c.as_slice.result.now turns (history s.lines s.programs h.trace)) (sym c.as_slice-turns.ensures.value)
     (told s v h consistent legal (state_of c.self.inside.first) c.as_slice.result.now c.self.invariant.first_is (c.as_slice.ensures.value ∙ c.self.invariant.programs_are)) in
     let o : Outcome = record { trace = c.in_ok-trace.trace; marks = c.in_ok-marks.marks; history = c.from_vec.result } in
     subst (λ (w : WorldView). IsOutcome w.parts w.turns o) c.self.view_is
-    (outcome_is s v h consistent legal o (run_is_bounded s v h consistent c.run_is_bounded.ensures c.ready.ensures c.self.invariant.scenario) c.in_ok-trace.ensures.trace (c.in_ok-marks.ensures ∙ ap (λ (turns : List TurnRecord). marks_in turns) c.as_slice-turns.ensures.value)
+    (outcome_is s v h consistent legal o (by_law s v h consistent IsBoundedRun c.run_is_bounded.ensures c.ready.ensures c.self.invariant.scenario)
+    (by_law s v h consistent SayEntries c.stores_are_told.ensures c.ready.ensures c.self.invariant.scenario) c.in_ok-trace.ensures.trace (c.in_ok-marks.ensures ∙ ap (λ (turns : List TurnRecord). marks_in turns) c.as_slice-turns.ensures.value)
     (c.from_vec.ensures ∙ c.in_ok-history.ensures.told (history s.lines s.programs h.trace) told_here))
