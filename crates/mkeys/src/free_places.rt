@@ -1,12 +1,12 @@
 //! Which places are free, in two levels of bits.
-ghost use Rattle.std.specs.Prelude.{◌≡◌, ◌<◌, ℕ, IsTrue, MatchOption, true, false};
+ghost use Rattle.std.specs.Prelude.{◌≡◌, ◌<◌, ℕ, MatchOption, true, false};
 ghost use Rattle.mkeys.specs.FreePlaces as free;
 
 use crate::table::PLACES;
 use std::marker::Model;
 
-/// The free ones of `PLACES` places: a bit a place, and for each word of these bits a bit that says whether the
-/// word has one. The lowest free place is found by two looks.
+/// The free ones of `PLACES` places: a bit for each place, and for each word of these bits one more that says
+/// whether the word has any. The lowest free place is found by two looks.
 #[derive(Drop)]
 pub(crate) struct FreePlaces {
     words: [u64; 64],

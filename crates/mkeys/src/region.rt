@@ -1,10 +1,10 @@
 //! Regions of memory, and what they allow.
-ghost use Rattle.std.specs.Prelude.{◌≡◌, ◌↔◌, IsTrue};
+ghost use Rattle.std.specs.Prelude.{◌≡◌};
 ghost use Rattle.mkeys.specs.Region.{has_right, is_within};
 
 use verbs_model::Rights;
 
-/// One of the rights of `Rights`: the use of memory that a key is asked for.
+/// One of the rights in `Rights`: the use of memory that a key is asked for.
 #[derive(Clone, Copy, Debug, PartialEq, Eq)]
 pub enum Right {
     LocalRead,
@@ -14,7 +14,7 @@ pub enum Right {
     Atomic,
 }
 
-/// A region of memory that has a key: what a memory key context says of it.
+/// A region of memory that has a key, with what a memory key context says of it (Programmer's Reference Manual).
 #[derive(Clone, Copy, Debug, PartialEq, Eq)]
 pub struct KeyRegion {
     /// The number of its protection domain.
@@ -44,7 +44,7 @@ impl Right {
 }
 
 impl KeyRegion {
-    /// Whether `len` bytes from `addr` on lie in the region.
+    /// Whether `len` bytes from `addr` on lie in the region. No sum is made, so none can wrap.
     pub(crate) fn contains(&self, addr: u64, len: u64) -> bool
         ensures { result ≡ is_within self.now addr len }
     {

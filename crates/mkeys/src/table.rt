@@ -14,11 +14,11 @@ use verbs_model::{NoMemory, Rights};
 /// How many keys may live at a time. Their indices are 0 to `PLACES` - 1.
 pub const PLACES: usize = 4096;
 
-/// The live memory keys: a place for each index, with the region that it stands for or nothing.
+/// The live memory keys: for each index a place, which has a region or none.
 ///
-/// A key is an index times 256 plus the variant of its region, as the Programmer's Reference Manual has the
-/// variant in the low 8 bits of a memory key. A look at a key is a look at one place, and the lowest free
-/// place is found by two looks at bits, so no call goes through the places.
+/// A key is the index of its place times 256 plus the variant of its region: the Programmer's Reference Manual
+/// has the variant in the low 8 bits of a memory key. No call but `new` takes memory, and none goes through the
+/// places: a key is looked up by its index, and the lowest free place by two looks at bits.
 #[derive(Drop)]
 pub struct KeyTable {
     places: Vec<Option<KeyRegion>>,
@@ -43,7 +43,7 @@ impl Model for KeyTable {
 }
 
 impl KeyTable {
-    /// A table in which no key lives.
+    /// A table in which no key lives. The error says that memory ran out.
     pub fn new(alloc: Global) -> Result<KeyTable, NoMemory>
         ensures { IfOk result (λ table. table ≡ map.empty) }
     {
@@ -56,7 +56,8 @@ impl KeyTable {
         }
     }
 
-    /// Makes a key for a region. Its index is the lowest that is free.
+    /// Makes a key for the region of `len` bytes from `start` on in a protection domain. The key's index is the
+    /// lowest that is free, and its variant, its low 8 bits, is the one that is given.
     ///
     /// `NoFree` says that `PLACES` keys live. Then nothing has changed.
     pub fn register(
