@@ -4,6 +4,10 @@
 #[cfg(test)]
 mod cells;
 #[cfg(test)]
+mod memory_keys;
+#[cfg(test)]
+mod qp_states;
+#[cfg(test)]
 mod shared_receives;
 #[cfg(test)]
 mod start_order;

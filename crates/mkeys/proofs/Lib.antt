@@ -1,0 +1,5 @@
+pub mod PlaceBits
+pub mod KeysOfPlaces
+pub mod MarkedPlaces
+pub mod KeyHistory
+pub mod KeyFaults
