@@ -4,6 +4,8 @@
 #[cfg(test)]
 mod cells;
 #[cfg(test)]
+mod events;
+#[cfg(test)]
 mod memory_keys;
 #[cfg(test)]
 mod qp_states;

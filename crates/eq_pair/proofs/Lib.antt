@@ -1,0 +1,12 @@
+pub mod Lists
+pub mod Agreeing
+pub mod Tied
+pub mod DeviceStep
+pub mod HostStep
+pub mod Law
+pub mod Knowing
+pub mod Says
+pub mod Kept
+pub mod Rows
+pub mod Begun
+pub mod LastWord

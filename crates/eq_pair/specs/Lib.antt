@@ -1,0 +1,12 @@
+pub mod Place
+pub mod Queue
+pub mod Mark
+pub mod Device
+pub mod Host
+pub mod Agree
+pub mod Law
+pub mod Rows
+pub mod DeviceView
+pub mod DeviceInside
+pub mod HostView
+pub mod HostInside
