@@ -27,7 +27,7 @@ pub record Names (keys : Keys) (key : ℕ) (region : KeyRegion) : Type 0 where
 abbrev pub Lives : Keys → ℕ → Type 0
 Lives keys key = (region : KeyRegion) × Names keys key region
 
--- The key permits a protection domain the use of so many bytes from an address on: it is that of a region which allows it.
+-- The key permits a protection domain the use of `len` bytes from an address on: it is that of a region which allows it.
 abbrev pub Permits : Keys → ℕ → ℕ → ℕ → ℕ → Right → Type 0
 Permits keys key pd addr len right = (region : KeyRegion) × Names keys key region × Allows region pd addr len right
 

@@ -12,11 +12,11 @@ has_right rights RemoteRead = rights.remote_read
 has_right rights RemoteWrite = rights.remote_write
 has_right rights Atomic = rights.atomic
 
--- whether so many bytes from this address on lie in the region
+-- whether `len` bytes from this address on lie in the region
 abbrev pub is_within : KeyRegion → ℕ → ℕ → Bool
 is_within region addr len = nat_le region.start addr && nat_le (addr + len) (region.start + region.len)
 
--- The region may be used so: by this protection domain, with this right, for so many bytes from this address on.
+-- The region may be used so: by this protection domain, with this right, for `len` bytes from this address on.
 pub record Allows (region : KeyRegion) (pd addr len : ℕ) (right : Right) : Type 0 where
   pub domain : region.pd ≡ pd
   pub right_held : IsTrue (has_right region.rights right)

@@ -27,7 +27,7 @@ device_view a = record {
   seen = a.seen;
 }
 
--- so many words of an entry were read, and the others are 0
+-- `loaded` words of an entry were read, and the others are 0
 pub record IsReading (place : SrqPlace) (taken loaded : ℕ) (words : List ℕ) : Type 0 where
   pub low : taken < 2 ^ 62
   pub few : loaded < entry_words place

@@ -2,11 +2,11 @@
 use Rattle.std.specs.Prelude.{ℕ, Bool, true, false}
 
 pub data SrqMark : Type 0 where
-  -- the poster begins a post behind the receives that it wrote and did not ring for, so many, at this slot
+  -- the poster begins a post at this slot, behind `pending` receives that it wrote and did not ring for
   Begin : (pending slot : ℕ) → SrqMark
   -- it goes on with the post that it began
   Fill : SrqMark
-  -- it rings for so many that it wrote; the slot behind theirs is this one
+  -- it rings for `pending` receives that it wrote; the slot behind theirs is this one
   Ring : (pending slot : ℕ) → SrqMark
   -- the freer looks up the id of this slot
   Lookup : (slot : ℕ) → SrqMark

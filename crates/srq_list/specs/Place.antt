@@ -6,7 +6,7 @@ use Rattle.srq_list.specs.declared.place.SrqPlace.{SrqPlace}
 abbrev pub size : SrqPlace → ℕ
 size place = 2 ^ place.log
 
--- at most so many receives are posted and not freed
+-- the most receives that are posted and not freed
 abbrev pub max_post : SrqPlace → ℕ
 max_post place = size place - 1
 
@@ -37,7 +37,7 @@ link_word slot = slot * 2 ^ 32
 abbrev pub next_of : SrqPlace → ℕ → ℕ
 next_of place word = slot_of place (word / 2 ^ 32 % 2 ^ 16)
 
--- the record of so many receives, where the queue's first count is `start`: the low 16 bits of the sum
+-- the record of `count` receives, where the queue's first count is `start`: the low 16 bits of the sum
 abbrev pub record_of : ℕ → ℕ → ℕ
 record_of start count = (start + count) % 2 ^ 16
 

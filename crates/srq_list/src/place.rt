@@ -99,7 +99,7 @@ pub(crate) fn link_word(slot: u16) -> u64
     (slot as u64) << 32
 }
 
-/// The record of so many receives, where the queue's first count is `start`: the low 16 bits of the sum.
+/// The record of `count` receives, where the queue's first count is `start`: the low 16 bits of the sum.
 pub(crate) fn record_of(start: u64, count: u64) -> u16
     ensures { result ≡ words.record_of start count }
 {
