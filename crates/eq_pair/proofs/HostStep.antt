@@ -1,6 +1,6 @@
 -- One operation of the host's side keeps what ties words, sides and list, and what it says is a step of the list.
-use Rattle.std.proofs.Common.{◌≡◌, ℕ, ◌+◌, ◌-◌, ◌*◌, ◌%◌, ◌^◌, ◌<◌, ◌≤◌, refl, ap, sym, ◌∙◌, subst, arith, Bool, true, false, cond, eqb, List, [], ◌∷◌, ◌++◌, length, get_or, Some, None}
-use Rattle.std.specs.Prelude.{drop, slice_get}
+use Rattle.std.proofs.Common.{◌≡◌, ℕ, ◌+◌, ◌-◌, ◌≤◌, refl, ap, sym, ◌∙◌, subst, arith, Bool, true, false, cond, eqb, List, [], ◌∷◌, ◌++◌, length, get_or, Some, None}
+use Rattle.std.specs.Prelude.{slice_get}
 use Rattle.std.proofs.Math.ListN.{drop_of_length-le}
 use Rattle.std.proofs.lemmas.Bool.{eq-eqb, ne_eqb}
 use Rattle.std.proofs.lemmas.Option.{slice_get_within, slice_get-get_or, get_or_from_slice_get}
@@ -12,11 +12,10 @@ use Rattle.verbs_types.specs.declared.completion.EventRecord.{EventRecord}
 use Rattle.cqe_format.specs.Bytes.{entry_bytes}
 use Rattle.cqe_format.specs.Event.{IsEqe}
 use Rattle.cqe_format.proofs.Values.{one_event}
-use Rattle.owner_ring.specs.Place.{slot, is_owned, record_of, IsPlace}
+use Rattle.owner_ring.specs.Place.{slot, is_owned, IsPlace}
 use Rattle.owner_ring.specs.Ring.{Ring, published, IsEntry}
 use Rattle.owner_ring.specs.Ring as ring
 use Rattle.owner_ring.specs.Mark as ring_marks
-use Rattle.owner_ring.specs.Producer.{Producer}
 use Rattle.owner_ring.specs.Consumer.{MayConsume}
 use Rattle.owner_ring.specs.Consumer as ring_side
 use Rattle.owner_ring.proofs.Tied as ring_tied
@@ -29,11 +28,7 @@ use Rattle.eq_pair.specs.Queue.{EventList, Took, NoEvent, Gave, MayTake, MayGive
 use Rattle.eq_pair.specs.Device.{EventWriter}
 use Rattle.eq_pair.specs.Host.{EventTaker, Waiting, Reading, Holding, next_index, consumer_of, IsReadAs, whole_entry, after_take, takes}
 use Rattle.eq_pair.specs.Host as host
-use Rattle.eq_pair.proofs.Tied.{Tied, Fits, AllSpelled, Goes, producer_of, next_given}
-
--- the next index of the ring's consumer, which is one further while an event is held
-abbrev ring_next : EventTaker → ℕ
-ring_next h = ring_side.next_index (consumer_of h)
+use Rattle.eq_pair.proofs.Tied.{Tied, Fits, Goes, producer_of, next_given}
 
 module _ (place : EqPlace) (m : Memory) (d : EventWriter) (q : EventList) (entries : Ring) where
   abbrev RingTied : ring_side.Consumer → Type 0
@@ -110,6 +105,7 @@ looks_at (Waiting i) = record { acked = omega arith; next = omega arith }
 looks_at (Reading i last ws) = record { acked = omega arith; next = omega arith }
 looks_at (Holding i event) = record { acked = omega arith; next = omega arith }
 
+-- what a look makes of the ring
 look : (place : EqPlace) (m : Memory) (d : EventWriter) (h : EventTaker) (q : EventList) (e : BusEntry) → IsPlace (ring_of place) → (t : Tied place m d h q) → Tells m e → IsLoad (slot (ring_of place) (next_index h) 7) e →
     ring_tied.Goes (ring_of place) (after_entry m e) (producer_of d) (ring_side.after_consume (ring_of place) (consumer_of h) (ring_marks.Look (next_index h)) e) t.entries (ring_side.consumed (ring_of place) (consumer_of h) (ring_marks.Look (next_index h)) e)
 look place m d h q e ok t tells load = consumer_step (ring_of place) m (producer_of d) (consumer_of h) t.entries (ring_marks.Look (next_index h)) e ok t.ring tells (record { reachable = looks_at h; load = load })
@@ -117,9 +113,15 @@ look place m d h q e ok t tells load = consumer_step (ring_of place) m (producer
 pub host_step : (place : EqPlace) (m : Memory) (d : EventWriter) (h : EventTaker) (q : EventList) (mark : EqMark) (e : BusEntry) → IsPlace (ring_of place) → Tied place m d h q → Tells m e → host.MayTake place h mark e →
     Goes place (after_entry m e) d (after_take place h mark e) q (takes place h mark e)
 host_step place m d h q (Write event) e ok t tells may = absurd may
-host_step place m d (Waiting i) q Look e ok t tells may = looks place (after_entry m e) d q t.entries (Waiting i) i i (loaded e) (is_owned (ring_of place) i (loaded e)) t.fits (next_given place m d (Waiting i) q t) (omega arith) (look place m d (Waiting i) q e ok t tells may)
-host_step place m d (Reading i last ws) q Look e ok t tells may = looks place (after_entry m e) d q t.entries (Reading i last ws) i i (loaded e) (is_owned (ring_of place) i (loaded e)) t.fits (next_given place m d (Reading i last ws) q t) (omega arith) (look place m d (Reading i last ws) q e ok t tells may)
-host_step place m d (Holding i held) q Look e ok t tells may = looks place (after_entry m e) d q t.entries (Holding i held) i (i + 1) (loaded e) (is_owned (ring_of place) i (loaded e)) t.fits (next_given place m d (Holding i held) q t) (omega arith) (look place m d (Holding i held) q e ok t tells may)
+host_step place m d (Waiting i) q Look e ok t tells may =
+    looks place (after_entry m e) d q t.entries (Waiting i) i i (loaded e) (is_owned (ring_of place) i (loaded e)) t.fits (next_given place m d (Waiting i) q t) (omega arith)
+    (look place m d (Waiting i) q e ok t tells may)
+host_step place m d (Reading i last ws) q Look e ok t tells may =
+    looks place (after_entry m e) d q t.entries (Reading i last ws) i i (loaded e) (is_owned (ring_of place) i (loaded e)) t.fits (next_given place m d (Reading i last ws) q t) (omega arith)
+    (look place m d (Reading i last ws) q e ok t tells may)
+host_step place m d (Holding i held) q Look e ok t tells may =
+    looks place (after_entry m e) d q t.entries (Holding i held) i (i + 1) (loaded e) (is_owned (ring_of place) i (loaded e)) t.fits (next_given place m d (Holding i held) q t) (omega arith)
+    (look place m d (Holding i held) q e ok t tells may)
 host_step place m d (Waiting i) q Read e ok t tells may = absurd may
 host_step place m d (Reading i last ws) q Read e ok t tells may =
     reads place (after_entry m e) d q t.entries i last (loaded e) ws (eqb (length ws) 6) (ne_eqb (length ws) 6 (λ six. absurd (omega (arith, may.part, six)))) t.fits

@@ -1,6 +1,6 @@
 -- What a legal history of a queue says of its events.
-use Rattle.std.proofs.Common.{◌≡◌, ℕ, ◌+◌, ◌-◌, ◌<◌, ◌≤◌, refl, ap, sym, ◌∙◌, subst, arith, List, [], ◌∷◌, ◌++◌, length, take, Some, length-append, append_assoc}
-use Rattle.std.specs.Prelude.{drop, slice_get, filter_map, fold}
+use Rattle.std.proofs.Common.{◌≡◌, ℕ, ◌≤◌, refl, ap, sym, ◌∙◌, subst, arith, List, [], ◌∷◌, ◌++◌, length, take, Some, length-append, append_assoc}
+use Rattle.std.specs.Prelude.{drop, slice_get, fold}
 use Rattle.std.proofs.lemmas.List.{append-nil, take-append-le, take_more, length-drop}
 use Rattle.std.proofs.Math.Seq.{take-length}
 use Rattle.std.proofs.lemmas.List.Elements.{filter_map-append}

@@ -2,7 +2,6 @@
 use Rattle.std.proofs.Common.{◌≡◌, ℕ, refl, ap, sym, ◌∙◌, subst}
 use Rattle.bus_core.specs.declared.operation.BusEntry.{BusEntry}
 use Rattle.bus_core.specs.Operation.{IsLoad, loaded}
-use Rattle.verbs_types.specs.declared.completion.EventRecord.{EventRecord}
 use Rattle.owner_ring.specs.Place.{slot}
 use Rattle.eq_pair.specs.declared.place.EqPlace.{EqPlace}
 use Rattle.eq_pair.specs.Place.{ring_of}

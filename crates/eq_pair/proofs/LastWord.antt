@@ -1,5 +1,5 @@
 -- The load of an entry's last unread word, as the ring's consumer makes it and as the host takes the event by it.
-use Rattle.std.proofs.Common.{◌≡◌, ℕ, ◌+◌, ◌*◌, ◌^◌, ◌<◌, IsTrue, refl, ap, sym, ◌∙◌, subst, arith, Bool, true, false, cond, eqb, is_some, List, [], ◌∷◌, ◌++◌, length, Option, Some, None}
+use Rattle.std.proofs.Common.{◌≡◌, ℕ, ◌+◌, ◌*◌, ◌^◌, IsTrue, refl, ap, sym, ◌∙◌, subst, arith, Bool, true, false, cond, eqb, is_some, List, length, Option, Some, None}
 use Rattle.std.proofs.lemmas.Bool.{eqb-true}
 use Rattle.bus_core.specs.declared.operation.BusEntry.{BusEntry}
 use Rattle.bus_core.specs.declared.turn.Step.TheVariants.{More, Done}
@@ -15,7 +15,7 @@ use Rattle.owner_ring.specs.ConsumerView.{ConsumerView, ConsumerTurn, Task}
 use Rattle.owner_ring.specs.ConsumerView as ring_view
 use Rattle.eq_pair.specs.declared.place.EqPlace.{EqPlace}
 use Rattle.eq_pair.specs.Place.{ring_of}
-use Rattle.eq_pair.specs.Host.{EventTaker, Holding, consumer_of, IsReadAs, whole_entry}
+use Rattle.eq_pair.specs.Host.{Holding, consumer_of, IsReadAs, whole_entry}
 use Rattle.eq_pair.specs.HostView.{HostView, HostTurn, turns_left}
 use Rattle.eq_pair.specs.HostInside.{taker_of, host_with, IsTask}
 

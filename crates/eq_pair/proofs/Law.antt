@@ -1,12 +1,12 @@
 -- The law of an event queue.
-use Rattle.std.proofs.Common.{◌≡◌, ℕ, ◌+◌, ◌*◌, ◌/◌, ◌%◌, ◌^◌, ◌<◌, refl, ap, sym, ◌∙◌, arith, false, List, [], Option, Some, None}
+use Rattle.std.proofs.Common.{◌≡◌, ◌/◌, ◌%◌, ◌^◌, ◌<◌, refl, ap, ◌∙◌, arith, List, [], Option, Some, None}
 use Rattle.std.proofs.Math.Nat.{div-lt_iff_lt-mul}
 use Rattle.std.proofs.lemmas.Bool.{ne_eqb}
 use Rattle.std.proofs.lemmas.Option.{slice_get_within}
 use Rattle.bus_core.specs.Mark.{Marked}
 use Rattle.bus_core.specs.Trace.{Memory}
 use Rattle.bus_core.proofs.TwoSided.{Advances}
-use Rattle.owner_ring.specs.Place.{size, slot, owner_bit, is_owned}
+use Rattle.owner_ring.specs.Place.{size, owner_bit, is_owned}
 use Rattle.owner_ring.specs.Law.{IsStart}
 use Rattle.owner_ring.specs.Ring.{empty_ring}
 use Rattle.owner_ring.proofs.Slots.{size_positive}

@@ -1,5 +1,5 @@
 -- An item of a list that gets longer at its end, and a rule over a list in two parts.
-use Rattle.std.proofs.Common.{◌≡◌, ℕ, ◌<◌, suc, zero, refl, ap, sym, ◌∙◌, arith, List, [], ◌∷◌, ◌++◌, length, Some, length-append}
+use Rattle.std.proofs.Common.{◌≡◌, ℕ, ◌<◌, suc, zero, ap, sym, ◌∙◌, arith, List, [], ◌∷◌, ◌++◌, length, Some, length-append}
 use Rattle.std.specs.Prelude.{drop, slice_get, fold}
 use Rattle.std.proofs.lemmas.List.{get_or_push, get_or_append_left}
 use Rattle.std.proofs.lemmas.Option.{slice_get_within, get_or_from_slice_get, slice_get-get_or}

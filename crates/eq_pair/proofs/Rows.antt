@@ -1,6 +1,6 @@
 -- What the steps of an event queue are to a history of verbs.
-use Rattle.std.proofs.Common.{◌≡◌, ℕ, ◌+◌, ◌-◌, ◌≤◌, suc, refl, ap, sym, ◌∙◌, arith, List, [], ◌∷◌, Some, None, length-append}
-use Rattle.std.specs.Prelude.{drop, slice_get, fold}
+use Rattle.std.proofs.Common.{◌≡◌, ℕ, ◌+◌, suc, refl, ap, sym, ◌∙◌, arith, List, [], ◌∷◌, None, length-append}
+use Rattle.std.specs.Prelude.{drop, fold}
 use Rattle.std.proofs.lemmas.List.{drop-append-le, length-drop}
 use Rattle.std.proofs.lemmas.Option.{slice_get_within}
 use Rattle.verbs_types.specs.declared.completion.EventRecord.{EventRecord}

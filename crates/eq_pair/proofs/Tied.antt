@@ -1,5 +1,5 @@
 -- What ties the words, the two sides and the list of events, and what keeps it.
-use Rattle.std.proofs.Common.{◌≡◌, ℕ, ◌+◌, ◌≤◌, ◌<◌, refl, ◌∙◌, sym, arith, true, List, [], ◌∷◌, ◌++◌, length, Option, Some, None}
+use Rattle.std.proofs.Common.{◌≡◌, ℕ, ◌+◌, ◌≤◌, refl, ◌∙◌, sym, true, List, [], ◌∷◌, length, Option, Some, None}
 use Rattle.bus_core.specs.Trace.{Memory}
 use Rattle.verbs_types.specs.declared.completion.EventRecord.{EventRecord}
 use Rattle.cqe_format.specs.Bytes.{entry_bytes}

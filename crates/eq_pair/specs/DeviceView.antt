@@ -2,7 +2,7 @@
 use Rattle.std.specs.Prelude.{ℕ, ◌≡◌, ◌-◌, ◌<◌, length, true, Option, Some, None}
 use Rattle.bus_core.specs.declared.operation.BusEntry.{BusEntry}
 use Rattle.bus_core.specs.declared.turn.Step.{Step}
-use Rattle.bus_core.specs.declared.turn.Step.TheVariants.{More, Gave, Done}
+use Rattle.bus_core.specs.declared.turn.Step.TheVariants.{More, Done}
 use Rattle.verbs_types.specs.declared.completion.EventRecord.{EventRecord}
 use Rattle.owner_ring.specs.Place.{touches}
 use Rattle.eq_pair.specs.declared.place.EqPlace.{EqPlace}

@@ -1,5 +1,5 @@
 -- How the fields of a queue's host are seen.
-use Rattle.std.specs.Prelude.{ℕ, ◌≡◌, ◌+◌, ◌*◌, ◌^◌, ◌<◌, Option, Some, None, is_some}
+use Rattle.std.specs.Prelude.{◌≡◌, ◌*◌, ◌^◌, ◌<◌, Option, Some, None, is_some}
 use Rattle.verbs_types.specs.declared.completion.EventRecord.{EventRecord}
 use Rattle.owner_ring.specs.Place.{IsPlace}
 use Rattle.owner_ring.specs.Consumer as ring_side

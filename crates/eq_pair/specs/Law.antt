@@ -1,5 +1,5 @@
 -- An event queue as an object of two sides, and the traces that the law speaks of.
-use Rattle.std.specs.Prelude.{ℕ, ◌≡◌, ◌+◌, ◌<◌, List, []}
+use Rattle.std.specs.Prelude.{◌≡◌, ◌+◌, ◌<◌, List, []}
 use Rattle.bus_core.specs.Mark.{Marked}
 use Rattle.bus_core.specs.Trace.{Memory}
 use Rattle.bus_core.specs.TwoSides as two

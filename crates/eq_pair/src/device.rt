@@ -18,7 +18,7 @@ use verbs_types::EventRecord;
 
 /// Writes events, one bus operation a turn: the stores of words 0 to 7 of an entry, in order. The
 /// last one, with the owner bit, publishes the event, as the Programmer's Reference Manual has it.
-/// That the queue has room is up to the caller.
+/// That the queue has room is up to the caller: this side looks at no consumer index.
 #[derive(Drop)]
 pub struct EqDevice {
     place: EqPlace,

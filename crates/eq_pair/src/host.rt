@@ -30,8 +30,9 @@ pub enum EqTaken {
 const UNSPELLED: EventRecord = EventRecord::Completion { cq: 0 };
 
 /// Takes events, one bus operation a turn: a load of the next entry's last word, and where software
-/// owns it the loads of words 0 to 6 in order and a store of the register. It gives an event once
-/// the register is stored, as the Programmer's Reference Manual has it.
+/// owns it the loads of words 0 to 6 in order and a store of the register. The register is the
+/// Programmer's Reference Manual's; that it is stored after each event, which is given then, is this
+/// project's own.
 #[derive(Drop)]
 pub struct EqHost {
     place: EqPlace,
@@ -81,9 +82,8 @@ impl EqHost {
         self.ring.is_idle()
     }
 
-    /// The event whose words were all read, until the register is stored and it is given. The load
-    /// of its last word takes an error's event; a completion's counts as taken when its queue's arm
-    /// sequence number is raised.
+    /// The event whose words were all read, until the register is stored and it is given: the turn
+    /// that loads the last of them takes it, and answers that the taking goes on.
     pub fn taken(&self) -> Option<EventRecord>
         ensures { result ≡ held self.now.side }
     {
@@ -98,7 +98,8 @@ impl EqHost {
         self.ring.seen()
     }
 
-    /// Drops what is under way: the host is idle, and takes the same event again.
+    /// Drops what is under way: the host is idle, and takes the same event again. A caller that has
+    /// told of the event that `taken` shows goes on instead.
     pub fn forget(&mut self)
         ensures value { self.new ≡ forgotten self.old }
         ensures less { KnowsLess self.new.side self.old.side }

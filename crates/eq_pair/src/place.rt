@@ -4,9 +4,9 @@ ghost use Rattle.eq_pair.specs.Place as words;
 
 use owner_ring::RingPlace;
 
-/// Where an event queue lies, in words of the bus: its `2^log` entries of 8 words each, and the
-/// register of its consumer index, at byte 0x40 of the Programmer's Reference Manual's doorbell
-/// page. The places on the bus are this project's own.
+/// Where an event queue lies, in words of the bus: its `2^log` entries of 8 words each, `log` at most
+/// 23, and the register of its consumer index, which is the Programmer's Reference Manual's register
+/// 0x40 of a UAR page. The places on the bus are this project's own.
 #[derive(Clone, Copy, Debug, PartialEq, Eq)]
 pub struct EqPlace {
     pub base: u32,

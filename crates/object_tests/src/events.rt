@@ -56,12 +56,13 @@ fn event_is_written(rt: HostRuntime) -> Result<(), Fail> {
 #[test]
 fn event_is_taken(rt: HostRuntime) -> Result<(), Fail> {
     let mut bus = PlainBus::new(rt.alloc(), WORDS, 10)?;
-    bus.set_start(17415, 0x0000_0007_0000_0000);
+    bus.set_start(17408, 0x0004_0000_0000_0000);
+    bus.set_start(17412, 0x0000_0007_0000_0000);
     let mut host = EqHost::new(QUEUE);
     host.begin_take();
     goes_on_seven_times!(rt, host, bus);
     goes_on!(rt, host, bus);
-    let event = EventRecord::Completion { cq: 7 };
+    let event = EventRecord::CqError { cq: 7 };
     assert_eq!(rt; host.taken(), Some(event));
     assert_eq!(rt; host.turn(&mut bus), Step::Done(EqTaken::Event(event)));
     assert_eq!(rt; host.seen().a, 1);
