@@ -1,0 +1,14 @@
+pub mod Sound
+pub mod Registers
+pub mod Tied
+pub mod HostStep
+pub mod DeviceStep
+pub mod Parties
+pub mod Asking
+pub mod Law
+pub mod Judging
+pub mod Served
+pub mod Kept
+pub mod Knowing
+pub mod Says
+pub mod LateArm

@@ -1,0 +1,17 @@
+pub mod Place
+pub mod Words
+pub mod Arms
+pub mod Mark
+pub mod Armer
+pub mod Reader
+pub mod Device
+pub mod Scanner
+pub mod Law
+pub mod Kept
+pub mod Turn
+pub mod ArmerView
+pub mod ArmerInside
+pub mod ReaderView
+pub mod ReaderInside
+pub mod DeviceView
+pub mod DeviceInside
