@@ -58,7 +58,7 @@ build() {
     trap 'rm -f -- "$log"' EXIT
     total=$(grep -cE '^[a-z0-9_]+( [^:]*)?:' "$root/crates.txt")
     say "proving $total crates; what this machine has kept is not proved again"
-    if ! (cd -- "$root/crates" && rt all check --jobs "$(nproc)" 2>&1 </dev/null) | tell_progress "$total" "$log" ||
+    if ! (cd -- "$root/crates" && PYTHONUNBUFFERED=1 rt all check --jobs "$(nproc)" 2>&1 </dev/null) | tell_progress "$total" "$log" ||
         ! (cd -- "$crate" && rt run -- "${trial[@]}" </dev/null >/dev/null 2>>"$log"); then
         tail -n 40 -- "$log" >&2
         fail 'the program could not be built'
