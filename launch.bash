@@ -37,14 +37,17 @@ need_toolchain() {
     command -v rt >/dev/null || fail "there is no proved program, and no command rt to build one with"
 }
 
-# Tells of each crate that is proved as it comes, from what `rt all check` prints.
+# Tells of each crate that was read, ten at a time, and of each that was proved, from what `rt all check` prints.
 tell_progress() {
-    local total=$1 done=0 line began=$SECONDS
+    local total=$1 read=0 proved=0 line began=$SECONDS
     while IFS= read -r line; do
         printf '%s\n' "$line" >>"$2"
-        if [[ $line =~ ^==\ ([a-z0-9_]+)$ && ${BASH_REMATCH[1]} != summary ]]; then
-            done=$((done + 1))
-            say "$done of $total crates, $(((SECONDS - began) / 60)) minutes so far: ${BASH_REMATCH[1]}"
+        if [[ $line == 'only=0 proved=0'* ]]; then
+            read=$((read + 1))
+            ((read % 10)) || say "read $read of $total crates, $(((SECONDS - began) / 60)) minutes so far"
+        elif [[ $line =~ ^==\ ([a-z0-9_]+)$ && ${BASH_REMATCH[1]} != summary ]]; then
+            proved=$((proved + 1))
+            say "proved $proved of $total crates, $(((SECONDS - began) / 60)) minutes so far: ${BASH_REMATCH[1]}"
         fi
     done
 }
