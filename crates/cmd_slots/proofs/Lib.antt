@@ -1,0 +1,14 @@
+pub mod Orders
+pub mod Places
+pub mod Refusals
+pub mod Questions
+pub mod Bytes
+pub mod Outputs
+pub mod Tied
+pub mod Frames
+pub mod HostStep
+pub mod DeviceStep
+pub mod Hosts
+pub mod Law
+pub mod Kept
+pub mod Knowing

@@ -1,0 +1,11 @@
+pub mod Place
+pub mod Bytes
+pub mod Refusal
+pub mod Question
+pub mod Answer
+pub mod Family
+pub mod Slot
+pub mod Mark
+pub mod Host
+pub mod Device
+pub mod Law
