@@ -1,14 +1,13 @@
 -- One operation of the device keeps what ties words, hosts, device and slots, and what it says is a step of the slots. Its swap moves all slots at once.
-use Rattle.std.proofs.Common.{◌≡◌, ◌≢◌, ℕ, ◌+◌, ◌%◌, ◌<◌, ◌≤◌, inl, inr, refl, ap, sym, ◌∙◌, subst, arith, Bool, true, false, cond, eqb, ◌||◌, List, [], ◌∷◌, ◌++◌, length, take, get_or, Option, Some, None, Result, Ok, length-append}
+use Rattle.std.proofs.Common.{◌≡◌, ◌≢◌, ℕ, ◌+◌, ◌%◌, ◌<◌, ◌≤◌, inl, inr, refl, ap, sym, ◌∙◌, subst, arith, Bool, true, false, eqb, ◌||◌, List, [], ◌∷◌, ◌++◌, length, take, get_or, Option, Some, None, Result, Ok, length-append}
 use Rattle.std.specs.Int.{bit_at}
-use Rattle.std.proofs.lemmas.Bool.{cases_lt, cases_Bool, cases_eq, eq-eqb, ne_eqb, eqb-true, eqb-false}
+use Rattle.std.proofs.lemmas.Bool.{cases_lt, cases_eq, eq-eqb, ne_eqb}
 use Rattle.std.proofs.lemmas.Bool.Decides.{eqb_tells}
 use Rattle.std.proofs.lemmas.List.{take_more}
 use Rattle.std.proofs.lemmas.Nat.Bits.{bit_at-zero}
 use Rattle.std.proofs.Math.Seq.{take-length}
 use Rattle.bus_core.specs.declared.operation.BusEntry.{BusEntry}
-use Rattle.bus_core.specs.declared.operation.BusOp.TheVariants.{Load}
-use Rattle.bus_core.specs.Operation.{IsLoad, IsStore, IsSwap, loaded}
+use Rattle.bus_core.specs.Operation.{IsStore, IsSwap, loaded}
 use Rattle.bus_core.specs.Trace.{Memory, after_entry, Tells}
 use Rattle.bus_core.proofs.Words.{elsewhere, load_keeps, load_tells, store_leaves, swap_leaves, swap_tells}
 use Rattle.cmd_bodies.specs.declared.command.Command.{Command}
@@ -17,15 +16,15 @@ use Rattle.cmd_slots.specs.Place.{IsSlot, bits_word, entry_word}
 use Rattle.cmd_slots.specs.Family.{put}
 use Rattle.cmd_slots.specs.Question.{question_word, verdict}
 use Rattle.cmd_slots.specs.Answer.{Answers, IsAnswer, answer_word}
-use Rattle.cmd_slots.specs.Slot.{Slot, Free, Asked, Answered, SlotEvent, Executed, slot_of, MayHappen_to, made_of}
+use Rattle.cmd_slots.specs.Slot.{Slot, Free, Asked, Answered, SlotEvent, slot_of, MayHappen_to, made_of}
 use Rattle.cmd_slots.specs.Mark as marks
 use Rattle.cmd_slots.specs.Mark.{SlotMark}
-use Rattle.cmd_slots.specs.Host.{Asker, Awaiting, HostStage, stored_next}
-use Rattle.cmd_slots.specs.Device.{ServeStage, Reading, Judged, Storing, Server, Adapter, MayServe, MayServe_at, MayDeliver, judged_as, is_last, after_server, server_says, swept, has_bit, serving, answered_if, gives, after_serve, after_deliver, delivered}
-use Rattle.cmd_slots.proofs.Orders.{Stored, Stored_none, Stored_more, Stored_all, next_low, last_is_head, before_last}
-use Rattle.cmd_slots.proofs.Places.{IsOwn, IsShape, own_not_bits, entry_own, answer_own, answer_apart, answer_last, question_apart}
+use Rattle.cmd_slots.specs.Host.{Asker, stored_next}
+use Rattle.cmd_slots.specs.Device.{ServeStage, Reading, Judged, Storing, Server, Adapter, MayServe, MayServe_at, MayDeliver, judged_as, is_last, after_server, server_says, has_bit, serving, answered_if, gives, after_serve, after_deliver, delivered}
+use Rattle.cmd_slots.proofs.Orders.{Stored, Stored_none, Stored_more, Stored_all, next_low, before_last}
+use Rattle.cmd_slots.proofs.Places.{IsOwn, IsShape, own_not_bits, entry_own, answer_own, answer_apart, answer_last}
 use Rattle.cmd_slots.proofs.Questions.{question_whole, beginning_open, beginning_word}
-use Rattle.cmd_slots.proofs.Tied.{question_shape, answer_short, Reads, Gives, ServerFits, TakeFits, Given, Rung, FreeTied, AskedTied, AnsweredTied, SlotTied, SlotTied_kept, HostFits_kept, ServerFits_kept, Given_kept, Tied, Same, put_here, put_there, Goes}
+use Rattle.cmd_slots.proofs.Tied.{question_shape, answer_short, ServerFits, TakeFits, Rung, AskedTied, AnsweredTied, SlotTied, SlotTied_kept, HostFits_kept, ServerFits_kept, Given_kept, Tied, Same, put_here, put_there, Goes}
 use Rattle.cmd_slots.proofs.Frames.{load_same, bits_kept, own_same}
 
 -- what an operation of the device makes of one slot, with what it says: a slot that it answers it has not found any more

@@ -1,5 +1,5 @@
 -- What an operation on one slot leaves of the others.
-use Rattle.std.proofs.Common.{◌≡◌, ◌≢◌, ℕ, ◌^◌, refl, ap, sym, ◌∙◌, subst, arith, max, bit_or}
+use Rattle.std.proofs.Common.{◌≡◌, ◌≢◌, ℕ, ◌^◌, refl, ap, sym, ◌∙◌, subst, arith, max}
 use Rattle.std.specs.Int.{bit_at}
 use Rattle.std.proofs.lemmas.Nat.Bits.{bit_at_or, bit_at-pow_same, bit_at-pow_other}
 use Rattle.bus_core.specs.declared.operation.BusEntry.{BusEntry}

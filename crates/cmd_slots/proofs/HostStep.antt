@@ -1,35 +1,34 @@
 -- One operation of a slot's host keeps what ties words, hosts, device and slots, and what it says is a step of the slots.
-use Rattle.std.proofs.Common.{◌≡◌, ◌≢◌, ℕ, zero, suc, ◌+◌, ◌*◌, ◌/◌, ◌%◌, ◌^◌, ◌<◌, ◌≤◌, inl, inr, refl, ap, sym, ◌∙◌, subst, arith, Bool, true, false, cond, eqb, List, [], ◌∷◌, ◌++◌, length, take, get_or, Option, Some, None, Ok, length-append}
+use Rattle.std.proofs.Common.{◌≡◌, ◌≢◌, ℕ, zero, suc, ◌+◌, ◌*◌, ◌/◌, ◌%◌, ◌^◌, ◌<◌, ◌≤◌, inl, inr, refl, ap, sym, ◌∙◌, subst, arith, Bool, true, false, eqb, List, [], ◌∷◌, ◌++◌, length, take, get_or, Option, Some, None, length-append}
 use Rattle.std.specs.Int.{bit_at}
-use Rattle.std.proofs.lemmas.Bool.{cases_lt, cases_eq, eq-eqb, ne_eqb}
+use Rattle.std.proofs.lemmas.Bool.{cases_lt, eq-eqb, ne_eqb}
 use Rattle.std.proofs.lemmas.Bool.Decides.{eqb_tells}
 use Rattle.std.proofs.lemmas.List.{take_more}
 use Rattle.std.proofs.Math.Seq.{take-length}
 use Rattle.bus_core.specs.declared.operation.BusEntry.{BusEntry}
 use Rattle.bus_core.specs.declared.operation.BusOp.TheVariants.{Load}
-use Rattle.bus_core.specs.Operation.{IsLoad, IsStore, IsSetBits, loaded}
+use Rattle.bus_core.specs.Operation.{IsStore, IsSetBits, loaded}
 use Rattle.bus_core.specs.Trace.{Memory, after_entry, Tells}
 use Rattle.bus_core.proofs.Words.{elsewhere, load_keeps, load_tells, store_leaves}
 use Rattle.cmd_bodies.specs.declared.command.Command.{Command}
 use Rattle.cmd_bodies.specs.declared.reply.Reply.{Reply}
 use Rattle.cmd_bodies.specs.Reply.{listed_of, reply_at}
-use Rattle.cmd_slots.specs.declared.answer.Answer.{Answer}
 use Rattle.cmd_slots.specs.declared.answer.Answer.TheVariants.{Delivered, Refused}
 use Rattle.cmd_slots.specs.Place.{IsSlot, bits_word, entry_word}
 use Rattle.cmd_slots.specs.Family.{put}
 use Rattle.cmd_slots.specs.Bytes.{bytes_of}
 use Rattle.cmd_slots.specs.Refusal.{delivery_in}
 use Rattle.cmd_slots.specs.Question.{IsQuestion, question_word}
-use Rattle.cmd_slots.specs.Answer.{Answers, IsAnswer, answer_word, answer_blocks, output_word, output_words, listed_word, is_output}
+use Rattle.cmd_slots.specs.Answer.{answer_word, output_word, output_words, is_output}
 use Rattle.cmd_slots.specs.Slot.{Slot, Free, Asked, Answered, SlotEvent, Submitted, slot_of, MayHappen_to, made_of}
 use Rattle.cmd_slots.specs.Mark as marks
 use Rattle.cmd_slots.specs.Mark.{SlotMark, host_of}
 use Rattle.cmd_slots.specs.Host.{HostStage, Resting, Filling, Awaiting, Taking, Asker, IsFree, MayHost, MayHost_at, after_host, host_says, stored_next, shown, shown_says, taken, taken_says}
-use Rattle.cmd_slots.specs.Device.{Server, Adapter, Reading}
+use Rattle.cmd_slots.specs.Device.{Server, Adapter}
 use Rattle.cmd_slots.proofs.Orders.{Stored, Stored_none, Stored_kept, Stored_more, Stored_all, next_low}
-use Rattle.cmd_slots.proofs.Places.{IsOwn, IsShape, own_not_bits, question_own, question_apart, question_entry, answer_head, answer_last, output_head, output_listed, entry_own}
-use Rattle.cmd_slots.proofs.Outputs.{listed_few, length-output_words, output_words-listed, output_goes_on, output_ends, output_reads}
-use Rattle.cmd_slots.proofs.Tied.{question_shape, answer_short, Fills, HostFits, Rung, Reads, ServerFits, Takes, TakeFits, Given, Given_kept, FreeTied, AskedTied, AnsweredTied, SlotTied, SlotTied_kept, Tied, Same, put_here, put_there, Goes}
+use Rattle.cmd_slots.proofs.Places.{IsOwn, IsShape, own_not_bits, question_own, question_apart, question_entry, answer_last, output_head, output_listed}
+use Rattle.cmd_slots.proofs.Outputs.{length-output_words, output_words-listed, output_goes_on, output_ends, output_reads}
+use Rattle.cmd_slots.proofs.Tied.{question_shape, answer_short, Fills, Rung, ServerFits, TakeFits, Given, FreeTied, AnsweredTied, SlotTied, SlotTied_kept, Tied, Same, put_here, put_there, Goes}
 use Rattle.cmd_slots.proofs.Frames.{load_same, bits_kept, own_same, rest_kept, bit_set, set_same}
 
 -- what an operation of its host makes of one slot, with what it says

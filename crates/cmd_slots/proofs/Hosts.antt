@@ -1,17 +1,15 @@
 -- The own list of each slot's host keeps its rule, so the list of all hosts does.
 use Rattle.std.proofs.Common.{◌≡◌, ◌≢◌, ℕ, refl, sym, subst, Bool, true, false, ◌&&◌, cond, eqb, List, Option, Some, None}
-use Rattle.std.proofs.lemmas.Bool.{eqb-true}
 use Rattle.std.proofs.lemmas.Bool.Decides.{eqb_tells}
 use Rattle.bus_core.specs.declared.operation.BusEntry.{BusEntry}
 use Rattle.bus_core.specs.Follow.{Follows}
 use Rattle.bus_core.specs.Mark.{Marked}
 use Rattle.bus_core.specs.Trace.{Memory}
-use Rattle.bus_core.specs.TwoSides.{Device, Host, Bystander, is_party, IsRunOf, party, side}
+use Rattle.bus_core.specs.TwoSides.{Host, Bystander, is_party, IsRunOf, party, side}
 use Rattle.bus_core.proofs.Following.{Follows_weaker}
 use Rattle.bus_core.proofs.Lists.{filter-filter}
 use Rattle.bus_core.proofs.Weaving.{woven}
 use Rattle.cmd_slots.specs.Place.{touches}
-use Rattle.cmd_slots.specs.Family.{put}
 use Rattle.cmd_slots.specs.Mark as marks
 use Rattle.cmd_slots.specs.Mark.{SlotMark, role_of, host_of}
 use Rattle.cmd_slots.specs.Host.{Asker, MayHost, after_host}

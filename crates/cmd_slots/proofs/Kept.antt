@@ -1,12 +1,10 @@
 -- What a legal history says of each slot by itself.
-use Rattle.std.proofs.Common.{◌≡◌, ◌≢◌, ℕ, inl, inr, refl, ap, sym, ◌∙◌, subst, cond, eqb, List, [], ◌∷◌, ◌++◌, Option, Some, None, Result, Ok, append_assoc}
-use Rattle.std.specs.List.{fold}
+use Rattle.std.proofs.Common.{◌≡◌, ℕ, inl, inr, ap, sym, ◌∙◌, subst, cond, List, [], ◌∷◌, ◌++◌, Option, Some, None, Result, Ok, append_assoc}
 use Rattle.std.proofs.lemmas.List.{append-nil}
 use Rattle.std.proofs.lemmas.Bool.Decides.{eqb_tells}
 use Rattle.bus_core.proofs.Following.{fold-push}
 use Rattle.cmd_bodies.specs.declared.command.Command.{Command}
 use Rattle.cmd_slots.specs.declared.answer.Answer.{Answer}
-use Rattle.cmd_slots.specs.Family.{put}
 use Rattle.cmd_slots.specs.Answer.{Answers}
 use Rattle.cmd_slots.specs.Slot.{Slot, Free, Asked, Answered, SlotEvent, Submitted, Executed, Replied, slot_of, IsFree, MayExecute, MayRead, MayHappen, MayHappen_to, made_of, after_event, all_free, IsLegal, later_of, last_of, IsReply, KeepsQuestions}
 use Rattle.cmd_slots.proofs.Tied.{put_here, put_there}

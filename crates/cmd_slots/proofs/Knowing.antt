@@ -1,10 +1,8 @@
 -- What a machine that knows less may do, its side may do, and then it still knows less.
-use Rattle.std.proofs.Common.{◌≡◌, ℕ, refl, ap, sym, ◌∙◌, subst, Option}
+use Rattle.std.proofs.Common.{◌≡◌, ℕ, refl, subst}
 use Rattle.bus_core.specs.declared.operation.BusEntry.{BusEntry}
-use Rattle.bus_core.specs.Operation.{loaded}
 use Rattle.cmd_slots.specs.Mark as marks
 use Rattle.cmd_slots.specs.Mark.{SlotMark}
-use Rattle.cmd_slots.specs.Slot.{SlotEvent}
 use Rattle.cmd_slots.specs.Host.{HostStage, Resting, Filling, Awaiting, Taking, Asker, IsFree, MayFill, MayRing, MayAwait, MayHost, after_host, host_says, StageLess, KnowsLess}
 
 -- one operation of a slot's host, as a machine with this much knowledge sees it and as its list tells it

@@ -2,7 +2,7 @@ pub mod Orders
 pub mod Places
 pub mod Refusals
 pub mod Questions
-pub mod Bytes
+pub mod Spelling
 pub mod Outputs
 pub mod Tied
 pub mod Frames
@@ -12,3 +12,9 @@ pub mod Hosts
 pub mod Law
 pub mod Kept
 pub mod Knowing
+pub mod Judging
+pub mod Bodies
+pub mod Verdicts
+pub mod Ranges
+pub mod AnswerWords
+mod AskedWords

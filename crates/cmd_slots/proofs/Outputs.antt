@@ -1,16 +1,16 @@
 -- What a host reads of an answer, word after word: as many words as there are, and then the reply that was given.
-use Rattle.std.proofs.Common.{◌≡◌, ◌≢◌, ℕ, zero, suc, ◌+◌, ◌-◌, ◌*◌, ◌/◌, ◌%◌, ◌<◌, ◌≤◌, min, inl, inr, refl, ap, sym, ◌∙◌, subst, arith, Bool, true, false, cond, eqb, ◌&&◌, List, [], ◌∷◌, ◌++◌, length, take, get_or}
-use Rattle.std.proofs.lemmas.Bool.{cases_lt, cases_eq, eq-eqb, le-leb, lt-leb, ne_eqb, cond-true, cond-false}
+use Rattle.std.proofs.Common.{◌≡◌, ℕ, zero, suc, ◌+◌, ◌<◌, ◌≤◌, min, inl, inr, refl, ap, sym, ◌∙◌, subst, arith, Bool, true, false, cond, eqb, ◌&&◌, List, [], ◌∷◌, length, take, get_or}
+use Rattle.std.proofs.lemmas.Bool.{cases_lt, cases_eq, eq-eqb, le-leb, lt-leb, ne_eqb, cond-false}
 use Rattle.std.proofs.lemmas.List.{length-take-le}
 use Rattle.prm_fields.specs.Bits.{field_value}
 use Rattle.cmd_bodies.specs.declared.command.Command.{Command}
 use Rattle.cmd_bodies.specs.declared.command.Command.TheVariants.{QueryPages, ReturnPages, AllocPd, AllocUar, CreateMkey, CreateEq, CreateCq, CreateSrq, CreateQp}
 use Rattle.cmd_bodies.specs.declared.reply.Reply.{Reply}
-use Rattle.cmd_bodies.specs.Reply.{answer_of, listed_of, reply_length, reply_at, HasReply, IsReplyTo, Carries}
+use Rattle.cmd_bodies.specs.Reply.{answer_of, listed_of, reply_at, HasReply, IsReplyTo, Carries}
 use Rattle.cmd_bodies.proofs.Replies.{reads_back}
 use Rattle.cmd_slots.specs.Bytes.{bytes_of}
 use Rattle.cmd_slots.specs.Answer.{listed_word, listed_words, output_words, lists_pages, listed_behind, is_output}
-use Rattle.cmd_slots.proofs.Bytes.{length-bytes_of, field_of_first}
+use Rattle.cmd_slots.proofs.Spelling.{length-bytes_of, field_of_first}
 
 pub length-listed_words : (words : List ℕ) (k more : ℕ) → length (listed_words words k more) ≡ more
 unfolding listed_words

@@ -1,6 +1,6 @@
 -- The addresses of a question's words, of an answer's and of what a host reads of it: they are the slot's own, and apart.
-use Rattle.std.proofs.Common.{◌≡◌, ◌≢◌, ℕ, suc, ◌+◌, ◌-◌, ◌*◌, ◌/◌, ◌%◌, ◌<◌, ◌≤◌, ◌⊎◌, inl, inr, refl, ap, sym, ◌∙◌, subst, arith, Bool, true, false, cond, eqb, ltb, leb, ◌&&◌, ◌||◌, List, length, take}
-use Rattle.std.proofs.lemmas.Bool.{cases_lt, lt-ltb, le-ltb, le-leb, eq-eqb, ne_eqb, and_from, and_parts, or_left, or_right, or_cases}
+use Rattle.std.proofs.Common.{◌≡◌, ◌≢◌, ℕ, ◌+◌, ◌-◌, ◌*◌, ◌/◌, ◌%◌, ◌<◌, ◌≤◌, ◌⊎◌, inl, inr, refl, ap, sym, ◌∙◌, subst, arith, true, eqb, ltb, leb, ◌&&◌, List, length}
+use Rattle.std.proofs.lemmas.Bool.{cases_lt, lt-ltb, le-ltb, le-leb, ne_eqb, and_from, or_left, or_right}
 use Rattle.cmd_slots.specs.Place.{IsSlot, bits_word, entry_word, block_word, touches}
 use Rattle.cmd_slots.specs.Question.{question_word, block_in_slot, inputs, outputs, blocks}
 use Rattle.cmd_slots.specs.Answer.{answer_word, output_word}

@@ -1,18 +1,18 @@
 -- What a question is whose words are all there, and that none of its beginnings is judged before.
-use Rattle.std.proofs.Common.{◌≡◌, ◌≢◌, ℕ, zero, suc, ◌+◌, ◌-◌, ◌*◌, ◌/◌, ◌%◌, ◌<◌, ◌≤◌, inl, inr, refl, ap, sym, ◌∙◌, subst, arith, Bool, true, false, cond, eqb, leb, ltb, ◌&&◌, List, [], ◌∷◌, ◌++◌, length, take, drop, get_or, Option, Some, None, Result, Ok, Err}
-use Rattle.std.proofs.lemmas.List.{take-take, drop-take, take_more, take_all, length-take-le, append-nil}
-use Rattle.std.proofs.Math.Seq.{take-length}
-use Rattle.std.proofs.lemmas.Bool.{cases_Bool, cases_lt, lt-leb, lt-ltb, le-ltb, eqb-true, leb-true, and_parts}
+use Rattle.std.proofs.Common.{◌≡◌, ℕ, zero, suc, ◌+◌, ◌-◌, ◌*◌, ◌/◌, ◌%◌, ◌<◌, ◌≤◌, inl, inr, refl, ap, sym, ◌∙◌, subst, arith, Bool, true, false, cond, eqb, leb, ltb, List, [], ◌∷◌, ◌++◌, length, take, drop, Option, Some, None, Result, Ok}
+use Rattle.std.proofs.lemmas.List.{take-take, drop-take, length-take-le}
+use Rattle.std.proofs.Math.Numerals.{add-one}
+use Rattle.std.proofs.lemmas.Bool.{cases_Bool, cases_lt, lt-leb, lt-ltb, eqb-true, leb-true, and_parts}
 use Rattle.prm_fields.specs.Bits.{field_value}
-use Rattle.prm_fields.specs.Refusal.{Rule, first_refusal}
+use Rattle.prm_fields.specs.Refusal.{first_refusal}
 use Rattle.cmd_format.specs.declared.delivery.Delivery.{Delivery}
 use Rattle.cmd_format.specs.Entry.{entry_rules}
 use Rattle.cmd_format.specs.Block.{block_rules}
 use Rattle.cmd_bodies.specs.declared.command.Command.{Command}
 use Rattle.cmd_slots.specs.declared.answer.Answer.{Answer}
 use Rattle.cmd_slots.specs.Bytes.{bytes_of}
-use Rattle.cmd_slots.specs.Question.{entry_of, in_len, out_len, token, inputs, outputs, blocks, block_of, number_in, pointer_rule, rules_before, judged, input_of, IsQuestion, body_of, decided, is_judged, blocks_in, verdict_with, verdict, question_word}
-use Rattle.cmd_slots.proofs.Refusals.{all_kept, kept_first, kept_parts, behind_kept}
+use Rattle.cmd_slots.specs.Question.{entry_of, in_len, out_len, token, inputs, blocks, block_of, number_in, pointer_rule, rules_before, judged, input_of, IsQuestion, body_of, decided, is_judged, blocks_in, verdict_with, verdict, question_word}
+use Rattle.cmd_slots.proofs.Refusals.{all_kept, kept_first, kept_parts, behind_kept, broken_first}
 use Rattle.cmd_slots.proofs.Places.{IsShape, question_entry, question_block}
 
 -- an entry whose rules are kept has at most two blocks of input and two of output
@@ -171,3 +171,18 @@ beginning_word slot words count = elim (cases_lt count 8) [
       let entry : entry_of (take count words) ≡ entry_of words = (begins words count).entry high in
       question_block slot (take count words) count high ∙ rw entry (sym (question_block slot words count high))
 ]
+
+-- the rules of one block more
+pub rules_next : (slot : ℕ) (words : List ℕ) (b : ℕ) → first_refusal (rules_before slot words b) ≡ None → first_refusal (rules_before slot words (b + 1)) ≡ first_refusal (pointer_rule slot words b ∷ block_rules (token words) (number_in (inputs words) b) (block_of words b))
+rules_next slot words b kept =
+    ap (λ n. first_refusal (rules_before slot words n)) (add-one b)
+    ∙ ap first_refusal (rules_suc slot words b)
+    ∙ behind_kept (rules_before slot words b) (pointer_rule slot words b ∷ block_rules (token words) (number_in (inputs words) b) (block_of words b)) kept
+
+-- a refusal stays the first one when more is judged
+pub rules_broken : (slot : ℕ) (words : List ℕ) (b more : ℕ) (fault : Delivery) → first_refusal (rules_before slot words b) ≡ Some fault → first_refusal (rules_before slot words (b + more)) ≡ Some fault
+rules_broken slot words b zero fault broken = subst (λ (n : ℕ). first_refusal (rules_before slot words n) ≡ Some fault) (omega arith) broken
+rules_broken slot words b (suc more) fault broken =
+    let e : suc (b + more) ≡ b + suc more = omega arith in
+    subst (λ (n : ℕ). first_refusal (rules_before slot words n) ≡ Some fault) e
+    (ap first_refusal (rules_suc slot words (b + more)) ∙ broken_first (rules_before slot words (b + more)) _ fault (rules_broken slot words b more fault broken))

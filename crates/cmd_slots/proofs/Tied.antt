@@ -1,5 +1,5 @@
 -- What ties the words, the hosts, the device and what the slots stand for, and what keeps it.
-use Rattle.std.proofs.Common.{◌≡◌, ◌≢◌, ℕ, ◌+◌, ◌*◌, ◌%◌, ◌<◌, ◌≤◌, inl, inr, refl, ap, sym, ◌∙◌, subst, arith, Bool, true, false, cond, eqb, List, [], length, take, Option, Some, None, Result, Ok, Err}
+use Rattle.std.proofs.Common.{◌≡◌, ◌≢◌, ℕ, ◌+◌, ◌%◌, ◌<◌, ◌≤◌, inl, inr, ap, sym, ◌∙◌, subst, arith, Bool, true, false, List, [], length, take, Option, Some, None, Result, Ok}
 use Rattle.std.specs.Bool.{MatchBool}
 use Rattle.std.specs.Int.{bit_at}
 use Rattle.std.proofs.lemmas.Bool.Decides.{eqb_tells}
@@ -11,8 +11,8 @@ use Rattle.cmd_slots.specs.declared.answer.Answer.TheVariants.{Delivered, Refuse
 use Rattle.cmd_slots.specs.Place.{IsSlot, bits_word, entry_word, touches}
 use Rattle.cmd_slots.specs.Family.{put}
 use Rattle.cmd_slots.specs.Question.{IsQuestion, question_word}
-use Rattle.cmd_slots.specs.Answer.{Answers, IsAnswer, answer_blocks, answer_word, output_words}
-use Rattle.cmd_slots.specs.Slot.{Slot, Free, Asked, Answered, SlotEvent, slot_of, MayHappen, MayHappen_to, after_event, made_of}
+use Rattle.cmd_slots.specs.Answer.{Answers, IsAnswer, answer_word, output_words}
+use Rattle.cmd_slots.specs.Slot.{Slot, Free, Asked, Answered, SlotEvent, MayHappen, after_event}
 use Rattle.cmd_slots.specs.Host.{HostStage, Resting, Filling, Awaiting, Taking, Asker}
 use Rattle.cmd_slots.specs.Device.{ServeStage, Reading, Judged, Storing, Server, Adapter}
 use Rattle.cmd_slots.proofs.Orders.{Stored, Stored_kept}

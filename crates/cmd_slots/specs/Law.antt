@@ -1,5 +1,5 @@
 -- The command slots as one object of two sides, of which the host's has a host for each slot, and the traces that the law speaks of.
-use Rattle.std.specs.Prelude.{ℕ, ◌≡◌, ◌==◌, ◌&&◌, List, [], filter, Bool, true, false, Option, Some, None}
+use Rattle.std.specs.Prelude.{ℕ, ◌≡◌, ◌==◌, ◌&&◌, List, [], filter, Bool, false, Option, Some, None}
 use Rattle.std.specs.Int.{bit_at}
 use Rattle.std.specs.List.{AllByRecursion}
 use Rattle.bus_core.specs.declared.operation.BusEntry.{BusEntry}
@@ -11,7 +11,7 @@ use Rattle.bus_core.specs.TwoSides.{Object, Party, Device, is_party, IsHarmless}
 use Rattle.cmd_slots.specs.Place.{IsSlot, bits_word, touches}
 use Rattle.cmd_slots.specs.Family.{put}
 use Rattle.cmd_slots.specs.Slot.{Slot, SlotEvent, MayHappen, after_event}
-use Rattle.cmd_slots.specs.Mark.{SlotMark, Ask, Fill, Ring, Await, role_of, host_of}
+use Rattle.cmd_slots.specs.Mark.{SlotMark, role_of, host_of}
 use Rattle.cmd_slots.specs.Host.{Asker, Resting, MayHost, after_host, host_says}
 use Rattle.cmd_slots.specs.Device.{Adapter, Server, Reading, MayDeliver, after_deliver, delivered}
 

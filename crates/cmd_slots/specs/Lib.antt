@@ -9,3 +9,7 @@ pub mod Mark
 pub mod Host
 pub mod Device
 pub mod Law
+pub mod Turn
+pub mod Blocks
+pub mod Asking
+pub mod Answering

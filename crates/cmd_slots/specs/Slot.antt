@@ -1,5 +1,5 @@
 -- What a command slot stands for: a question and its answer.
-use Rattle.std.specs.Prelude.{ℕ, ◌≡◌, ◌+◌, ◌++◌, ◌==◌, List, [], ◌∷◌, filter, fold, Bool, Option, Some, None, Result, Ok, if◌then◌else◌}
+use Rattle.std.specs.Prelude.{ℕ, ◌≡◌, ◌+◌, ◌++◌, ◌==◌, List, ◌∷◌, fold, Option, Some, None, Result, Ok, if◌then◌else◌}
 use Rattle.bus_core.specs.Follow.{Follows}
 use Rattle.cmd_bodies.specs.declared.command.Command.{Command}
 use Rattle.cmd_slots.specs.declared.answer.Answer.{Answer}

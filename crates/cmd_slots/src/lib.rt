@@ -8,6 +8,12 @@
 #![tactic(auto)]
 
 mod answer;
+mod answering;
+mod asking;
+mod blocks;
+mod bytes;
 pub mod laws;
+mod place;
+mod question;
 
 pub use answer::Answer;

@@ -1,8 +1,8 @@
 -- The bytes of words.
-use Rattle.std.proofs.Common.{◌≡◌, ℕ, zero, suc, ◌+◌, ◌-◌, ◌*◌, ◌/◌, ◌%◌, ◌^◌, ◌<◌, ◌≤◌, List, [], ◌∷◌, ◌++◌, length, take, drop, get_or, refl, sym, ap, ◌∙◌, arith, length-append}
+use Rattle.std.proofs.Common.{◌≡◌, ℕ, zero, suc, ◌+◌, ◌*◌, ◌/◌, ◌%◌, ◌^◌, ◌<◌, ◌≤◌, List, [], ◌∷◌, ◌++◌, length, take, drop, get_or, refl, sym, ap, ◌∙◌, arith, length-append}
 use Rattle.std.specs.Int.{w64, to_be_bytes, byte_at, bytes_high_first}
-use Rattle.std.proofs.lemmas.Nat.{mod-pow-add, mod_below, pow-add}
-use Rattle.std.proofs.lemmas.List.{drop_at, take_at, take-append-drop}
+use Rattle.std.proofs.lemmas.Nat.{mod-pow-add, mod_below, mod_low, shr_high, pow-add}
+use Rattle.std.proofs.lemmas.List.{drop_at, take_at, take-append-drop, take_more, append-nil}
 use Rattle.std.proofs.lemmas.Grind.{flat_map-append}
 use Rattle.std.proofs.Math.Nat.{pow-suc, mod-eq_of_lt}
 use Rattle.prm_fields.specs.Bits.{field_value}
@@ -113,3 +113,32 @@ pub field_of_first : (words : List ℕ) (count first width : ℕ) → length (ta
 field_of_first words count first width long inside =
     let whole : bytes_of words ≡ bytes_of (take count words) ++ bytes_of (drop count words) = ap bytes_of (sym (take-append-drop count words)) ∙ bytes_of-append (take count words) (drop count words) in
     sym (ap (λ bytes. field_value bytes first width) whole ∙ field_of_front (bytes_of (take count words)) (bytes_of (drop count words)) first width (omega (arith, inside, length-bytes_of (take count words), long)))
+
+-- a field of a field
+pub part_value : (bytes : List ℕ) (first before width after : ℕ) → field_value bytes (first + before) width ≡ field_value bytes first (before + width + after) / 2 ^ after % 2 ^ width
+part_value bytes first before width after =
+    let last = field_value-lt bytes (first + (before + width)) after in
+    let high : field_value bytes first (before + width + after) / 2 ^ after ≡ field_value bytes first (before + width) =
+    ap (λ n. n / 2 ^ after) (field_value-add bytes first (before + width) after) ∙ shr_high _ after _ last in
+    let here = field_value-lt bytes (first + before) width in
+    sym (ap (λ n. n % 2 ^ width) (high ∙ field_value-add bytes first before width) ∙ mod_low _ width _ here)
+
+-- a field of word k
+pub word_part : (words : List ℕ) (k before width after : ℕ) → k < length words → before + width + after ≡ 64 → field_value (bytes_of words) (64 * k + before) width ≡ get_or words k 0 % 2 ^ 64 / 2 ^ after % 2 ^ width
+word_part words k before width after inside whole =
+    part_value (bytes_of words) (64 * k) before width after
+    ∙ ap (λ n. field_value (bytes_of words) (64 * k) n / 2 ^ after % 2 ^ width) whole
+    ∙ ap (λ n. n / 2 ^ after % 2 ^ width) (word_value words k inside)
+
+-- the second half of the first word
+pub low_half : (words : List ℕ) → 0 < length words → field_value (bytes_of words) 32 32 ≡ get_or words 0 0 % 2 ^ 32
+low_half words some =
+    let word = word_value words 0 some in
+    let half = part_value (bytes_of words) 0 32 32 0 in
+    omega (arith, half, word)
+
+-- one word more
+pub bytes_of-more : (words : List ℕ) (k : ℕ) → k < length words → bytes_of (take (k + 1) words) ≡ bytes_of (take k words) ++ to_be_bytes w64 (get_or words k 0)
+bytes_of-more words k inside =
+    ap bytes_of (take_more words k 0 inside) ∙ bytes_of-append (take k words) (get_or words k 0 ∷ [])
+    ∙ ap (λ bytes. bytes_of (take k words) ++ bytes) (bytes_of-cons (get_or words k 0) [] ∙ ap (λ bytes. to_be_bytes w64 (get_or words k 0) ++ bytes) bytes_of-nil ∙ append-nil (to_be_bytes w64 (get_or words k 0)))
