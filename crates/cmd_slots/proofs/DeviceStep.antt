@@ -22,7 +22,8 @@ use Rattle.cmd_slots.specs.Mark.{SlotMark}
 use Rattle.cmd_slots.specs.Host.{Asker, stored_next}
 use Rattle.cmd_slots.specs.Device.{ServeStage, Reading, Judged, Storing, Server, Adapter, MayServe, MayServe_at, MayDeliver, judged_as, is_last, after_server, server_says, has_bit, serving, answered_if, gives, after_serve, after_deliver, delivered}
 use Rattle.cmd_slots.proofs.Orders.{Stored, Stored_none, Stored_more, Stored_all, next_low, before_last}
-use Rattle.cmd_slots.proofs.Places.{IsOwn, IsShape, own_not_bits, entry_own, answer_own, answer_apart, answer_last}
+use Rattle.cmd_slots.specs.Turn.{IsShape}
+use Rattle.cmd_slots.proofs.Places.{IsOwn, own_not_bits, entry_own, answer_own, answer_apart, answer_last}
 use Rattle.cmd_slots.proofs.Questions.{question_whole, beginning_open, beginning_word}
 use Rattle.cmd_slots.proofs.Tied.{question_shape, answer_short, ServerFits, TakeFits, Rung, AskedTied, AnsweredTied, SlotTied, SlotTied_kept, HostFits_kept, ServerFits_kept, Given_kept, Tied, Same, put_here, put_there, Goes}
 use Rattle.cmd_slots.proofs.Frames.{load_same, bits_kept, own_same}

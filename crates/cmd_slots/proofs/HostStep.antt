@@ -26,7 +26,8 @@ use Rattle.cmd_slots.specs.Mark.{SlotMark, host_of}
 use Rattle.cmd_slots.specs.Host.{HostStage, Resting, Filling, Awaiting, Taking, Asker, IsFree, MayHost, MayHost_at, after_host, host_says, stored_next, shown, shown_says, taken, taken_says}
 use Rattle.cmd_slots.specs.Device.{Server, Adapter}
 use Rattle.cmd_slots.proofs.Orders.{Stored, Stored_none, Stored_kept, Stored_more, Stored_all, next_low}
-use Rattle.cmd_slots.proofs.Places.{IsOwn, IsShape, own_not_bits, question_own, question_apart, question_entry, answer_last, output_head, output_listed}
+use Rattle.cmd_slots.specs.Turn.{IsShape}
+use Rattle.cmd_slots.proofs.Places.{IsOwn, own_not_bits, question_own, question_apart, question_entry, answer_last, output_head, output_listed}
 use Rattle.cmd_slots.proofs.Outputs.{length-output_words, output_words-listed, output_goes_on, output_ends, output_reads}
 use Rattle.cmd_slots.proofs.Tied.{question_shape, answer_short, Fills, Rung, ServerFits, TakeFits, Given, FreeTied, AnsweredTied, SlotTied, SlotTied_kept, Tied, Same, put_here, put_there, Goes}
 use Rattle.cmd_slots.proofs.Frames.{load_same, bits_kept, own_same, rest_kept, bit_set, set_same}

@@ -1,6 +1,6 @@
 -- What a host reads of an answer, word after word: as many words as there are, and then the reply that was given.
-use Rattle.std.proofs.Common.{◌≡◌, ℕ, zero, suc, ◌+◌, ◌<◌, ◌≤◌, min, inl, inr, refl, ap, sym, ◌∙◌, subst, arith, Bool, true, false, cond, eqb, ◌&&◌, List, [], ◌∷◌, length, take, get_or}
-use Rattle.std.proofs.lemmas.Bool.{cases_lt, cases_eq, eq-eqb, le-leb, lt-leb, ne_eqb, cond-false}
+use Rattle.std.proofs.Common.{◌≡◌, ◌≢◌, ◌^◌, ◌/◌, ◌%◌, ℕ, zero, suc, ◌+◌, ◌<◌, ◌≤◌, min, inl, inr, refl, ap, sym, ◌∙◌, subst, arith, Bool, true, false, cond, eqb, ◌&&◌, List, [], ◌∷◌, length, take, get_or}
+use Rattle.std.proofs.lemmas.Bool.{cases_lt, cases_eq, eq-eqb, le-leb, lt-leb, ne_eqb, cond-true, cond-false}
 use Rattle.std.proofs.lemmas.List.{length-take-le}
 use Rattle.prm_fields.specs.Bits.{field_value}
 use Rattle.cmd_bodies.specs.declared.command.Command.{Command}
@@ -10,7 +10,7 @@ use Rattle.cmd_bodies.specs.Reply.{answer_of, listed_of, reply_at, HasReply, IsR
 use Rattle.cmd_bodies.proofs.Replies.{reads_back}
 use Rattle.cmd_slots.specs.Bytes.{bytes_of}
 use Rattle.cmd_slots.specs.Answer.{listed_word, listed_words, output_words, lists_pages, listed_behind, is_output}
-use Rattle.cmd_slots.proofs.Spelling.{length-bytes_of, field_of_first}
+use Rattle.cmd_slots.proofs.Spelling.{length-bytes_of, field_of_first, word_part}
 
 pub length-listed_words : (words : List ℕ) (k more : ℕ) → length (listed_words words k more) ≡ more
 unfolding listed_words
@@ -116,3 +116,30 @@ module _ (c : Command) (r : Reply) (words : List ℕ) (is : IsReplyTo c r) (has 
   -- and it is the reply
   pub output_reads : reply_at c (bytes_of output) ≡ r
   output_reads = reads_back c r (bytes_of output) is has (omega (arith, length-bytes_of output, long))
+
+-- status and number in the first two words
+pub status_read : (words : List ℕ) → 2 ≤ length words → get_or words 0 0 < 2 ^ 64 → field_value (bytes_of words) 0 8 ≡ get_or words 0 0 / 2 ^ 56
+status_read words some small =
+    let part = word_part words 0 0 8 56 (omega (arith, some)) (omega arith) in
+    omega (arith, part, small)
+
+pub number_read : (words : List ℕ) → 2 ≤ length words → get_or words 1 0 < 2 ^ 64 → field_value (bytes_of words) 64 32 ≡ get_or words 1 0 / 2 ^ 32
+number_read words some small =
+    let part = word_part words 1 0 32 32 (omega (arith, some)) (omega arith) in
+    omega (arith, part, small)
+
+module _ (c : Command) (words : List ℕ) where
+  pub listed_here : lists_pages c ≡ true → field_value (bytes_of words) 0 8 ≡ 0 → listed_behind c words ≡ min (field_value (bytes_of words) 64 32) 88
+  listed_here lists good =
+      ap (λ t. cond (t && eqb (field_value (bytes_of words) 0 8) 0) (min (field_value (bytes_of words) 64 32) 88) 0) lists
+      ∙ cond-true _ (min (field_value (bytes_of words) 64 32) 88) 0 (eq-eqb _ 0 good)
+
+  pub listed_no_pages : lists_pages c ≡ false → listed_behind c words ≡ 0
+  listed_no_pages none = ap (λ t. cond (t && eqb (field_value (bytes_of words) 0 8) 0) (min (field_value (bytes_of words) 64 32) 88) 0) none
+
+  pub listed_bad : field_value (bytes_of words) 0 8 ≢ 0 → listed_behind c words ≡ 0
+  listed_bad bad =
+      ap (λ t. cond (lists_pages c && t) (min (field_value (bytes_of words) 64 32) 88) 0) (ne_eqb _ 0 bad) ∙ neither (lists_pages c) where
+    neither : (b : Bool) → cond (b && false) (min (field_value (bytes_of words) 64 32) 88) 0 ≡ 0
+    neither true = refl
+    neither false = refl

@@ -4,6 +4,7 @@ use Rattle.std.proofs.lemmas.Bool.{cases_lt, lt-ltb, le-ltb, le-leb, ne_eqb, and
 use Rattle.cmd_slots.specs.Place.{IsSlot, bits_word, entry_word, block_word, touches}
 use Rattle.cmd_slots.specs.Question.{question_word, block_in_slot, inputs, outputs, blocks}
 use Rattle.cmd_slots.specs.Answer.{answer_word, output_word}
+use Rattle.cmd_slots.specs.Turn.{IsShape, HasWord}
 
 -- the words of one slot: its entry and its blocks
 abbrev pub IsOwn : ℕ → ℕ → Type 0
@@ -76,12 +77,6 @@ question_entry slot words p low = rw (lt-ltb p 8 low) refl
 pub question_block : (slot : ℕ) (words : List ℕ) (p : ℕ) → 8 ≤ p → question_word slot words p ≡ block_word slot (block_in_slot (inputs words) ((p - 8) / 72)) ((p - 8) % 72)
 unfolding question_word
 question_block slot words p high = rw (le-ltb p 8 high) refl
-
--- a question of at most two blocks of input and two of output
-pub record IsShape (words : List ℕ) : Type 0 where
-  pub long : length words ≡ 8 + 72 * blocks words
-  pub few_inputs : inputs words ≤ 2
-  pub few_outputs : outputs words ≤ 2
 
 module _ (slot : ℕ) (words : List ℕ) (shape : IsShape words) where
   pub question_own : (p : ℕ) → p < length words → IsOwn slot (question_word slot words p)
@@ -160,4 +155,14 @@ output_own slot k low = elim (cases_lt k 2) [
   | inr h ↦
       let e : 2 + (k - 2) ≡ k = omega arith in
       subst (λ (n : ℕ). IsOwn slot (output_word slot n)) e (subst (IsOwn slot) (sym (output_listed slot (k - 2))) (answer_own slot _ (omega arith)))
+]
+
+-- all of them are the slots' words, below the end of the blocks
+pub own_below : (slot x : ℕ) → IsSlot slot → IsOwn slot x → x < 17408
+own_below slot x ok own = elim own [ inl e ↦ omega arith | inr e ↦ omega arith ]
+
+pub word_own : (slot : ℕ) (words : List ℕ) (p : ℕ) → HasWord words p → IsOwn slot (question_word slot words p)
+word_own slot words p has = elim (cases_lt p 8) [
+  | inl h ↦ subst (IsOwn slot) (sym (question_entry slot words p h)) (entry_own slot p h)
+  | inr h ↦ subst (IsOwn slot) (sym (question_block slot words p h)) (block_own slot _ _ (in_slot_few (inputs words) (outputs words) ((p - 8) / 72) (has.few_inputs h) (has.few_outputs h) (omega (arith, has.inside h))) (omega arith))
 ]

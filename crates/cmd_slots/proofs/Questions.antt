@@ -13,7 +13,8 @@ use Rattle.cmd_slots.specs.declared.answer.Answer.{Answer}
 use Rattle.cmd_slots.specs.Bytes.{bytes_of}
 use Rattle.cmd_slots.specs.Question.{entry_of, in_len, out_len, token, inputs, blocks, block_of, number_in, pointer_rule, rules_before, judged, input_of, IsQuestion, body_of, decided, is_judged, blocks_in, verdict_with, verdict, question_word}
 use Rattle.cmd_slots.proofs.Refusals.{all_kept, kept_first, kept_parts, behind_kept, broken_first}
-use Rattle.cmd_slots.proofs.Places.{IsShape, question_entry, question_block}
+use Rattle.cmd_slots.specs.Turn.{IsShape}
+use Rattle.cmd_slots.proofs.Places.{question_entry, question_block}
 
 -- an entry whose rules are kept has at most two blocks of input and two of output
 pub record HasLengths (words : List ℕ) : Type 0 where

@@ -16,7 +16,8 @@ use Rattle.cmd_slots.specs.Slot.{Slot, Free, Asked, Answered, SlotEvent, MayHapp
 use Rattle.cmd_slots.specs.Host.{HostStage, Resting, Filling, Awaiting, Taking, Asker}
 use Rattle.cmd_slots.specs.Device.{ServeStage, Reading, Judged, Storing, Server, Adapter}
 use Rattle.cmd_slots.proofs.Orders.{Stored, Stored_kept}
-use Rattle.cmd_slots.proofs.Places.{IsOwn, IsShape, question_own, answer_own, entry_own, touches_own, touches_bits}
+use Rattle.cmd_slots.specs.Turn.{IsShape}
+use Rattle.cmd_slots.proofs.Places.{IsOwn, question_own, answer_own, entry_own, touches_own, touches_bits}
 use Rattle.cmd_slots.proofs.Questions.{question_whole}
 use Rattle.cmd_slots.proofs.Outputs.{listed_few}
 

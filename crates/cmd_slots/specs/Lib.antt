@@ -13,3 +13,5 @@ pub mod Turn
 pub mod Blocks
 pub mod Asking
 pub mod Answering
+pub mod HostView
+pub mod HostInside

@@ -1,5 +1,5 @@
 -- What a turn of either side asks of its port, and of the words that it looks at.
-use Rattle.std.specs.Prelude.{ℕ, ◌+◌, ◌*◌, ◌<◌, ◌≤◌, List, length}
+use Rattle.std.specs.Prelude.{ℕ, ◌≡◌, ◌+◌, ◌*◌, ◌<◌, ◌≤◌, List, length}
 use Rattle.bus_core.specs.declared.turn.Note.{Note}
 use Rattle.bus_core.specs.Port.{Port, HasRoom}
 use Rattle.cmd_slots.specs.Question.{inputs, outputs, blocks}
@@ -19,3 +19,9 @@ pub record HasWord (words : List ℕ) (p : ℕ) : Type 0 where
   pub few_inputs : 8 ≤ p → inputs words ≤ 2
   pub few_outputs : 8 ≤ p → outputs words ≤ 2
   pub inside : 8 ≤ p → p < 8 + 72 * blocks words
+
+-- a question of at most two blocks of input and two of output
+pub record IsShape (words : List ℕ) : Type 0 where
+  pub long : length words ≡ 8 + 72 * blocks words
+  pub few_inputs : inputs words ≤ 2
+  pub few_outputs : outputs words ≤ 2

@@ -12,8 +12,11 @@ mod answering;
 mod asking;
 mod blocks;
 mod bytes;
+mod host;
 pub mod laws;
+mod output;
 mod place;
 mod question;
 
 pub use answer::Answer;
+pub use host::{SlotHost, Waiting};

@@ -1,8 +1,8 @@
 //! Where the words of the slots lie.
-ghost use Rattle.std.specs.Prelude.{◌≡◌, ◌+◌, ◌-◌, ◌*◌, ◌/◌, ◌%◌, ◌^◌, ◌<◌, ◌≤◌, length};
+ghost use Rattle.std.specs.Prelude.{◌≡◌, ◌+◌, ◌-◌, ◌*◌, ◌/◌, ◌%◌, ◌^◌, ◌<◌, ◌≤◌, length, true};
 ghost use Rattle.cmd_format.specs.Block.{blocks_of};
 ghost use Rattle.cmd_slots.specs.Place as words;
-ghost use Rattle.cmd_slots.specs.Place.{IsSlot};
+ghost use Rattle.cmd_slots.specs.Place.{IsSlot, touches};
 ghost use Rattle.cmd_slots.specs.Question as question;
 ghost use Rattle.cmd_slots.specs.Answer as answer;
 ghost use Rattle.cmd_slots.specs.Host as order;
@@ -17,7 +17,9 @@ pub(crate) const BITS_WORD: u32 = 4;
 pub(crate) fn entry_word(slot: u32, k: u32) -> u32
     requires slot { IsSlot slot }
     requires word { k < 8 }
-    ensures { result ≡ words.entry_word slot k }
+    ensures at { result ≡ words.entry_word slot k }
+    ensures below { result < 17408 }
+    ensures inside { touches result ≡ true }
 {
     512 + 8 * slot + k
 }
@@ -76,7 +78,9 @@ pub(crate) fn input_blocks(words: &[u64]) -> u32
 pub(crate) fn question_word(slot: u32, words: &[u64], p: u32) -> u32
     requires slot { IsSlot slot }
     requires inside { HasWord words.now p }
-    ensures { result ≡ question.question_word slot words.now p }
+    ensures at { result ≡ question.question_word slot words.now p }
+    ensures below { result < 17408 }
+    ensures inside { touches result ≡ true }
 {
     if p < 8 {
         entry_word(slot, p)
@@ -91,7 +95,9 @@ pub(crate) fn question_word(slot: u32, words: &[u64], p: u32) -> u32
 pub(crate) fn answer_word(slot: u32, p: u32) -> u32
     requires slot { IsSlot slot }
     requires inside { p < 147 }
-    ensures { result ≡ answer.answer_word slot p }
+    ensures at { result ≡ answer.answer_word slot p }
+    ensures below { result < 17408 }
+    ensures inside { touches result ≡ true }
 {
     if p < 2 {
         entry_word(slot, 4 + p)
@@ -107,7 +113,9 @@ pub(crate) fn answer_word(slot: u32, p: u32) -> u32
 pub(crate) fn output_word(slot: u32, k: u32) -> u32
     requires slot { IsSlot slot }
     requires inside { k < 90 }
-    ensures { result ≡ answer.output_word slot k }
+    ensures at { result ≡ answer.output_word slot k }
+    ensures below { result < 17408 }
+    ensures inside { touches result ≡ true }
 {
     if k < 2 {
         entry_word(slot, 4 + k)
