@@ -1,0 +1,20 @@
+pub mod Orders
+pub mod Places
+pub mod Refusals
+pub mod Questions
+pub mod Spelling
+pub mod Outputs
+pub mod Tied
+pub mod Frames
+pub mod HostStep
+pub mod DeviceStep
+pub mod Hosts
+pub mod Law
+pub mod Kept
+pub mod Knowing
+pub mod Judging
+pub mod Bodies
+pub mod Verdicts
+pub mod Ranges
+pub mod AnswerWords
+mod AskedWords

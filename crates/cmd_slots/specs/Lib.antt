@@ -1,0 +1,17 @@
+pub mod Place
+pub mod Bytes
+pub mod Refusal
+pub mod Question
+pub mod Answer
+pub mod Family
+pub mod Slot
+pub mod Mark
+pub mod Host
+pub mod Device
+pub mod Law
+pub mod Turn
+pub mod Blocks
+pub mod Asking
+pub mod Answering
+pub mod HostView
+pub mod HostInside

@@ -1,0 +1,22 @@
+//! Command slots: how a host asks the adapter for a command and is answered, as words.
+//!
+//! Each of 32 hosts has a slot of the command queue: an entry and four mailbox blocks. A command is
+//! stored there and rung for by one bit of a word that all slots share; the adapter swaps that word,
+//! reads the commands of the bits that it found, and stores the answers where the commands were.
+//! [`SlotHost`] is the machine of a slot's host. `laws::stands` says of any host and device that keep
+//! their rules that each slot is a question and its answer.
+#![tactic(auto)]
+
+mod answer;
+mod answering;
+mod asking;
+mod blocks;
+mod bytes;
+mod host;
+pub mod laws;
+mod output;
+mod place;
+mod question;
+
+pub use answer::Answer;
+pub use host::{SlotHost, Waiting};
