@@ -12,6 +12,7 @@ mod answering;
 mod asking;
 mod blocks;
 mod bytes;
+mod device;
 mod host;
 pub mod laws;
 mod output;
@@ -19,4 +20,5 @@ mod place;
 mod question;
 
 pub use answer::Answer;
+pub use device::{SlotDevice, SlotDone};
 pub use host::{SlotHost, Waiting};
