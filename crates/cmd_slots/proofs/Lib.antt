@@ -17,4 +17,5 @@ pub mod Bodies
 pub mod Verdicts
 pub mod Ranges
 pub mod AnswerWords
-mod AskedWords
+pub mod DeviceTurns
+pub mod AskedWords

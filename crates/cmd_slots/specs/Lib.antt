@@ -15,3 +15,5 @@ pub mod Asking
 pub mod Answering
 pub mod HostView
 pub mod HostInside
+pub mod DeviceView
+pub mod DeviceInside

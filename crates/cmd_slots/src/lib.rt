@@ -3,8 +3,8 @@
 //! Each of 32 hosts has a slot of the command queue: an entry and four mailbox blocks. A command is
 //! stored there and rung for by one bit of a word that all slots share; the adapter swaps that word,
 //! reads the commands of the bits that it found, and stores the answers where the commands were.
-//! [`SlotHost`] is the machine of a slot's host. `laws::stands` says of any host and device that keep
-//! their rules that each slot is a question and its answer.
+//! [`SlotHost`] and [`SlotDevice`] are the two sides of one slot. `laws::stands` says that all of it
+//! together is, for each slot, a question and its answer.
 #![tactic(auto)]
 
 mod answer;
@@ -12,6 +12,7 @@ mod answering;
 mod asking;
 mod blocks;
 mod bytes;
+mod device;
 mod host;
 pub mod laws;
 mod output;
@@ -19,4 +20,5 @@ mod place;
 mod question;
 
 pub use answer::Answer;
+pub use device::{SlotDevice, SlotDone};
 pub use host::{SlotHost, Waiting};
