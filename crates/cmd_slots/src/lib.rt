@@ -10,6 +10,7 @@
 mod answer;
 mod answering;
 mod asking;
+mod bits;
 mod blocks;
 mod bytes;
 mod device;
@@ -20,5 +21,6 @@ mod place;
 mod question;
 
 pub use answer::Answer;
+pub use bits::SlotBits;
 pub use device::{SlotDevice, SlotDone};
 pub use host::{SlotHost, Waiting};
