@@ -1,10 +1,10 @@
 -- One operation of the device keeps what ties words, hosts, device and slots, and what it says is a step of the slots. Its swap moves all slots at once.
-use Rattle.std.proofs.Common.{◌≡◌, ◌≢◌, ℕ, ◌+◌, ◌%◌, ◌<◌, ◌≤◌, inl, inr, refl, ap, sym, ◌∙◌, subst, arith, Bool, true, false, eqb, ◌||◌, List, [], ◌∷◌, ◌++◌, length, take, get_or, Option, Some, None, Result, Ok, length-append}
+use Rattle.std.proofs.Common.{◌≡◌, ◌≢◌, ℕ, ◌+◌, ◌%◌, ◌/◌, ◌*◌, ◌^◌, ◌<◌, ◌≤◌, inl, inr, refl, ap, sym, ◌∙◌, subst, arith, Bool, true, false, eqb, ◌||◌, List, [], ◌∷◌, ◌++◌, length, take, get_or, Option, Some, None, Result, Ok, length-append}
 use Rattle.std.specs.Int.{bit_at}
 use Rattle.std.proofs.lemmas.Bool.{cases_lt, cases_eq, eq-eqb, ne_eqb}
 use Rattle.std.proofs.lemmas.Bool.Decides.{eqb_tells}
 use Rattle.std.proofs.lemmas.List.{take_more}
-use Rattle.std.proofs.lemmas.Nat.Bits.{bit_at-zero}
+use Rattle.std.proofs.lemmas.Nat.Bits.{bit_at-zero, bit_at_cat_low}
 use Rattle.std.proofs.Math.Seq.{take-length}
 use Rattle.bus_core.specs.declared.operation.BusEntry.{BusEntry}
 use Rattle.bus_core.specs.Operation.{IsStore, IsSwap, loaded}
@@ -20,7 +20,7 @@ use Rattle.cmd_slots.specs.Slot.{Slot, Free, Asked, Answered, SlotEvent, slot_of
 use Rattle.cmd_slots.specs.Mark as marks
 use Rattle.cmd_slots.specs.Mark.{SlotMark}
 use Rattle.cmd_slots.specs.Host.{Asker, stored_next}
-use Rattle.cmd_slots.specs.Device.{ServeStage, Reading, Judged, Storing, Server, Adapter, MayServe, MayServe_at, MayDeliver, judged_as, is_last, after_server, server_says, has_bit, serving, answered_if, gives, after_serve, after_deliver, delivered}
+use Rattle.cmd_slots.specs.Device.{ServeStage, Reading, Judged, Storing, Server, Adapter, MayServe, MayServe_at, MayDeliver, judged_as, is_last, after_server, server_says, has_bit, slot_bits, serving, answered_if, gives, after_serve, after_deliver, delivered}
 use Rattle.cmd_slots.proofs.Orders.{Stored, Stored_none, Stored_more, Stored_all, next_low, before_last}
 use Rattle.cmd_slots.specs.Turn.{IsShape}
 use Rattle.cmd_slots.proofs.Places.{IsOwn, own_not_bits, entry_own, answer_own, answer_apart, answer_last}
@@ -250,34 +250,40 @@ module _ (m : Memory) (e : BusEntry) (swap : IsSwap bits_word 0 e) (tells : Tell
   rest : (slot x : ℕ) → IsOwn slot x → after_entry m e x ≡ m x
   rest slot x own = elsewhere m e x (λ same. own_not_bits slot x own (sym swap.at_address ∙ same))
 
-  not_found : (found : Bool) (slot : ℕ) → found ≡ false → bit_at (m bits_word) slot ≡ 0 → (found || has_bit (loaded e) slot) ≡ false
-  not_found found slot none clear = let zero : has_bit (loaded e) slot ≡ false = ap (λ w. eqb (bit_at w slot) 1) word_is ∙ ap (λ b. eqb b 1) clear in rw (none, zero) refl
+  bit_found : (slot : ℕ) → IsSlot slot → bit_at (slot_bits (loaded e)) slot ≡ bit_at (m bits_word) slot
+  bit_found slot ok =
+      let word = m bits_word in
+      let parts : word / 2 ^ 32 * 2 ^ 32 + word % 2 ^ 32 ≡ word = omega arith in
+      ap (λ w. bit_at (slot_bits w) slot) word_is ∙ sym (bit_at_cat_low (word / 2 ^ 32) 32 (word % 2 ^ 32) slot ok) ∙ ap (λ w. bit_at w slot) parts
 
-  now_found : (found : Bool) (slot : ℕ) → Rung found (bit_at (m bits_word) slot) → (found || has_bit (loaded e) slot) ≡ true
-  now_found true slot rung = refl
-  now_found false slot rung = ap (λ w. eqb (bit_at w slot) 1) word_is ∙ ap (λ b. eqb b 1) rung
+  not_found : (found : Bool) (slot : ℕ) → IsSlot slot → found ≡ false → bit_at (m bits_word) slot ≡ 0 → (found || has_bit (slot_bits (loaded e)) slot) ≡ false
+  not_found found slot ok none clear = let zero : has_bit (slot_bits (loaded e)) slot ≡ false = ap (λ b. eqb b 1) (bit_found slot ok ∙ clear) in rw (none, zero) refl
 
-  sweep_slot : (slot : ℕ) (found : Bool) (h : Asker) (s : Server) (state : Slot) → SlotTied m slot found h s state → SlotTied (after_entry m e) slot (found || has_bit (loaded e) slot) h s state
-  sweep_slot slot found h s (Free done) t = record {
+  now_found : (found : Bool) (slot : ℕ) → IsSlot slot → Rung found (bit_at (m bits_word) slot) → (found || has_bit (slot_bits (loaded e)) slot) ≡ true
+  now_found true slot ok rung = refl
+  now_found false slot ok rung = ap (λ b. eqb b 1) (bit_found slot ok ∙ rung)
+
+  sweep_slot : (slot : ℕ) → IsSlot slot → (found : Bool) (h : Asker) (s : Server) (state : Slot) → SlotTied m slot found h s state → SlotTied (after_entry m e) slot (found || has_bit (slot_bits (loaded e)) slot) h s state
+  sweep_slot slot ok found h s (Free done) t = record {
     asked_is = t.asked_is;
     answered_is = t.answered_is;
-    silent = not_found found slot t.silent t.clear;
+    silent = not_found found slot ok t.silent t.clear;
     clear = gone slot;
     host = HostFits_kept m (after_entry m e) slot (rest slot) h.stage t.host;
     server = t.server;
   }
-  sweep_slot slot found h s (Asked done c) t = record {
+  sweep_slot slot ok found h s (Asked done c) t = record {
     asked_is = t.asked_is;
     answered_is = t.answered_is;
-    rung = subst (λ (b : Bool). Rung b (bit_at (after_entry m e bits_word) slot)) (sym (now_found found slot t.rung)) (gone slot);
+    rung = subst (λ (b : Bool). Rung b (bit_at (after_entry m e bits_word) slot)) (sym (now_found found slot ok t.rung)) (gone slot);
     owned = ap (λ w. w % 2) (rest slot (entry_word slot 7) (entry_own slot 7 (omega arith))) ∙ t.owned;
     host = t.host;
     server = ServerFits_kept m (after_entry m e) slot (rest slot) c s.stage t.server;
   }
-  sweep_slot slot found h s (Answered done c answer) t = record {
+  sweep_slot slot ok found h s (Answered done c answer) t = record {
     asked_is = t.asked_is;
     answered_is = t.answered_is;
-    silent = not_found found slot t.silent t.clear;
+    silent = not_found found slot ok t.silent t.clear;
     clear = gone slot;
     server = t.server;
     given = Given_kept m (after_entry m e) slot (rest slot) c answer h.stage t.given;
@@ -285,7 +291,7 @@ module _ (m : Memory) (e : BusEntry) (swap : IsSwap bits_word 0 e) (tells : Tell
 
 pub device_step : (m : Memory) (d : Adapter) (hosts : ℕ → Asker) (slots : ℕ → Slot) (mark : SlotMark) (e : BusEntry) → Tied m d hosts slots → Tells m e → MayDeliver d mark e →
     Goes (after_entry m e) (after_deliver d mark e) hosts slots (delivered d mark e)
-device_step m d hosts slots marks.Sweep e t tells may = record { each = λ slot ok. sweep_slot m e may tells slot (d.found slot) (hosts slot) (d.servers slot) (slots slot) (t.each slot ok) }
+device_step m d hosts slots marks.Sweep e t tells may = record { each = λ slot ok. sweep_slot m e may tells slot ok (d.found slot) (hosts slot) (d.servers slot) (slots slot) (t.each slot ok) }
 device_step m d hosts slots (marks.Read slot) e t tells may = serve_step m d hosts slots slot (marks.Read slot) e t tells may
 device_step m d hosts slots (marks.Reply slot answer words) e t tells may = serve_step m d hosts slots slot (marks.Reply slot answer words) e t tells may
 device_step m d hosts slots (marks.Store slot) e t tells may = serve_step m d hosts slots slot (marks.Store slot) e t tells may

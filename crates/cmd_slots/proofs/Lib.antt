@@ -16,6 +16,7 @@ pub mod Judging
 pub mod Bodies
 pub mod Verdicts
 pub mod Ranges
+pub mod Found
 pub mod AnswerWords
 pub mod DeviceTurns
 pub mod AskedWords

@@ -1,5 +1,5 @@
 -- The rule of the device, over its own operations on the slots' words.
-use Rattle.std.specs.Prelude.{ℕ, ◌≡◌, ◌+◌, ◌<◌, ◌==◌, ◌||◌, ◌++◌, if◌then◌else◌, Bool, true, false, List, [], ◌∷◌, length, take, slice_index, Option, Some, None, Result}
+use Rattle.std.specs.Prelude.{ℕ, ◌≡◌, ◌+◌, ◌%◌, ◌^◌, ◌<◌, ◌==◌, ◌||◌, ◌++◌, if◌then◌else◌, Bool, true, false, List, [], ◌∷◌, length, take, slice_index, Option, Some, None, Result}
 use Rattle.std.specs.Int.{bit_at}
 use Rattle.bus_core.specs.declared.operation.BusEntry.{BusEntry}
 use Rattle.bus_core.specs.Operation.{IsLoad, IsStore, IsSwap, loaded}
@@ -112,8 +112,12 @@ MayDeliver d _ e = ⊥
 abbrev pub has_bit : ℕ → ℕ → Bool
 has_bit word slot = bit_at word slot == 1
 
+-- those of the slots: the low 32
+abbrev pub slot_bits : ℕ → ℕ
+slot_bits word = word % 2 ^ 32
+
 abbrev pub swept : Adapter → ℕ → Adapter
-swept d word = record { found = λ slot. d.found slot || has_bit word slot; servers = d.servers }
+swept d word = record { found = λ slot. d.found slot || has_bit (slot_bits word) slot; servers = d.servers }
 
 abbrev pub serving : Adapter → ℕ → Server → Adapter
 serving d slot s = record { found = d.found; servers = put d.servers slot s }

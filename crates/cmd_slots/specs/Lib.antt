@@ -17,3 +17,5 @@ pub mod HostView
 pub mod HostInside
 pub mod DeviceView
 pub mod DeviceInside
+pub mod BitsView
+pub mod BitsInside
