@@ -1,6 +1,5 @@
 -- What a turn of either side asks of its port, and of the words that it looks at.
 use Rattle.std.specs.Prelude.{ℕ, ◌≡◌, ◌+◌, ◌*◌, ◌<◌, ◌≤◌, List, length}
-use Rattle.bus_core.specs.declared.turn.Note.{Note}
 use Rattle.bus_core.specs.Port.{Port, HasRoom}
 use Rattle.cmd_slots.specs.Question.{inputs, outputs, blocks}
 
@@ -9,9 +8,6 @@ pub record CanServe {Bus : Type 0} (port : Port Bus) : Type 0 where
   pub room : HasRoom port.room
   pub slots : 17408 ≤ port.words
 
--- a note that shows one count of the other side
-abbrev pub count_note : ℕ → Note
-count_note count = record { kind = 0; object = 0; a = count; b = 0; c = 0; d = 0 }
 
 -- a question of these first words has a word of this number, in its entry or in one of at most four blocks
 pub record HasWord (words : List ℕ) (p : ℕ) : Type 0 where

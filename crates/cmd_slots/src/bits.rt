@@ -2,6 +2,7 @@
 ghost use Rattle.std.specs.Prelude.{◌≡◌, ◌↔◌, IsTrue, true, false};
 ghost use Rattle.bus_core.specs.Port.{Appends};
 ghost use Rattle.bus_core.specs.declared.operation.BusEntry.{BusEntry};
+ghost use Rattle.bus_core.specs.Turn.{IsWhole};
 ghost use Rattle.cmd_slots.specs.Place.{IsSlot};
 ghost use Rattle.cmd_slots.specs.Device.{has_bit};
 ghost use Rattle.cmd_slots.specs.BitsView.{BitsTurn, Cleared, IsLowest};
@@ -81,7 +82,8 @@ impl SlotBits {
     pub fn turn<P: BusPort>(&mut self, port: &mut P) -> Step<(), ()>
         requires busy { self.old.sweeping ≡ true }
         requires port { CanServe (P.port port.old) }
-        ensures { (e : BusEntry) × Appends (P.port port.old) (P.port port.new) e × BitsTurn self.old self.new e result }
+        ensures made { (e : BusEntry) × Appends (P.port port.old) (P.port port.new) e × BitsTurn self.old self.new e result }
+        ensures whole { IsWhole result }
     {
         let word = port.swap(BITS_WORD, 0);
         self.bits |= (word & 0xffff_ffff) as u32;

@@ -2,11 +2,12 @@
 ghost use Rattle.std.specs.Prelude.{◌≡◌, ◌<◌, ◌≤◌, ◌^◌, ◌↔◌, IsTrue, IsSome, Some, None, [], length, true};
 ghost use Rattle.bus_core.specs.Port.{Appends};
 ghost use Rattle.bus_core.specs.declared.operation.BusEntry.{BusEntry};
+ghost use Rattle.bus_core.specs.Turn.{IsWhole, count_note};
 ghost use Rattle.cmd_slots.specs.Place.{IsSlot, touches};
 ghost use Rattle.cmd_slots.specs.Device.{Reading, StoresAnswer};
 ghost use Rattle.cmd_slots.specs.DeviceView as view;
 ghost use Rattle.cmd_slots.specs.DeviceView.{DeviceTurn, MayAnswer, Read, Replies, fresh, turns_left};
-ghost use Rattle.cmd_slots.specs.Turn.{CanServe, count_note};
+ghost use Rattle.cmd_slots.specs.Turn.{CanServe};
 
 use crate::Answer;
 use crate::answering::answer;
@@ -140,7 +141,8 @@ impl SlotDevice {
     pub fn turn<P: BusPort>(&mut self, port: &mut P) -> Step<(), SlotDone>
         requires busy { IsSome self.old.task }
         requires port { CanServe (P.port port.old) }
-        ensures { (e : BusEntry) × Appends (P.port port.old) (P.port port.new) e × DeviceTurn self.old self.new e result }
+        ensures made { (e : BusEntry) × Appends (P.port port.old) (P.port port.new) e × DeviceTurn self.old self.new e result }
+        ensures whole { IsWhole result }
     {
         match self.phase {
             Phase::Waiting | Phase::Judged => unreachable!(),

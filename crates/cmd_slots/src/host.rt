@@ -2,11 +2,12 @@
 ghost use Rattle.std.specs.Prelude.{◌≡◌, ◌<◌, ◌≤◌, ◌^◌, ◌↔◌, IsTrue, IsSome, None, length, true};
 ghost use Rattle.bus_core.specs.Port.{Appends};
 ghost use Rattle.bus_core.specs.declared.operation.BusEntry.{BusEntry};
+ghost use Rattle.bus_core.specs.Turn.{count_note};
 ghost use Rattle.cmd_bodies.specs.Command.{FitsFields};
 ghost use Rattle.cmd_slots.specs.Place.{IsSlot, touches};
 ghost use Rattle.cmd_slots.specs.Host.{StoresQuestion, IsFree, KnowsLess};
 ghost use Rattle.cmd_slots.specs.HostView.{HostTurn, Asks, fresh, forgotten, turns_left};
-ghost use Rattle.cmd_slots.specs.Turn.{CanServe, IsShape, count_note};
+ghost use Rattle.cmd_slots.specs.Turn.{CanServe, IsShape};
 
 use crate::Answer;
 use crate::asking::ask;

@@ -10,7 +10,7 @@ use Rattle.counted_ring.specs.Mark.{WqMark, Post, Ring, Lookup, Count, Retire, L
 use Rattle.counted_ring.specs.Queue.{Queue, WqEvent, empty_queue, IsLegal, MayAsk, AsksInOrder}
 use Rattle.counted_ring.specs.Device.{WqReader}
 use Rattle.counted_ring.specs.Law.{QueueHost, MayUse, after_use, used, queue_object, fresh_poster, fresh_finder, fresh_host, fresh_device, IsStart, IsRun, history}
-use Rattle.counted_ring.proofs.Asking.{Advances, Asked, law_of_asking}
+use Rattle.bus_core.proofs.Asking.{Advances, Asked, law_of_asking}
 use Rattle.counted_ring.proofs.Users.{run_of_users}
 use Rattle.counted_ring.proofs.Orders.{empty_order}
 use Rattle.counted_ring.proofs.Tied.{Tied, Tied_kept, Goes, Asks}

@@ -13,7 +13,6 @@ pub mod PosterStep
 pub mod RetirerStep
 pub mod DeviceStep
 pub mod Users
-pub mod Asking
 pub mod Knowing
 pub mod Says
 pub mod Law

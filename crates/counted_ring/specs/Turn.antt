@@ -1,6 +1,5 @@
 -- What a turn of any user of a counted queue asks of its port, and what it leaves of a task.
 use Rattle.std.specs.Prelude.{ℕ, ◌≡◌, ◌<◌, Option, Some, None}
-use Rattle.bus_core.specs.declared.turn.Note.{Note}
 use Rattle.bus_core.specs.declared.turn.Step.{Step}
 use Rattle.bus_core.specs.declared.turn.Step.TheVariants.{More, Gave, Done}
 use Rattle.bus_core.specs.Port.{Port, HasRoom}
@@ -17,7 +16,3 @@ abbrev pub task_after : {T G D : Type 0} → Option T → Step G D → Option T
 task_after task More = task
 task_after task (Gave part) = task
 task_after task (Done answer) = None
-
--- a note that shows one count of another user
-abbrev pub count_note : ℕ → Note
-count_note count = record { kind = 0; object = 0; a = count; b = 0; c = 0; d = 0 }

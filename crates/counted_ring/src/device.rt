@@ -2,10 +2,11 @@
 ghost use Rattle.std.specs.Prelude.{◌≡◌, ◌<◌, ◌+◌, ◌^◌, ◌↔◌, IsTrue, IsSome, Some, None, true, false, []};
 ghost use Rattle.bus_core.specs.Port.{Appends};
 ghost use Rattle.bus_core.specs.declared.operation.BusEntry.{BusEntry};
+ghost use Rattle.bus_core.specs.Turn.{IsWhole, count_note};
 ghost use Rattle.counted_ring.specs.Place.{IsPlace, is_send};
 ghost use Rattle.counted_ring.specs.Device.{passed};
 ghost use Rattle.counted_ring.specs.DeviceView.{DeviceTurn, Look, Record, Read};
-ghost use Rattle.counted_ring.specs.Turn.{CanServe, count_note};
+ghost use Rattle.counted_ring.specs.Turn.{CanServe};
 
 use crate::place::{WqPlace, shown};
 use bus_core::{BusPort, Note, Step};
@@ -143,7 +144,8 @@ impl WqDevice {
     pub fn turn<P: BusPort>(&mut self, port: &mut P) -> Step<(), WqSeen>
         requires busy { IsSome self.old.task }
         requires port { CanServe self.old.place (P.port port.old) }
-        ensures { (e : BusEntry) × Appends (P.port port.old) (P.port port.new) e × DeviceTurn self.old self.new e result }
+        ensures made { (e : BusEntry) × Appends (P.port port.old) (P.port port.new) e × DeviceTurn self.old self.new e result }
+        ensures whole { IsWhole result }
     {
         match self.phase {
             Phase::Idle => unreachable!(),

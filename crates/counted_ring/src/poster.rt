@@ -2,9 +2,10 @@
 ghost use Rattle.std.specs.Prelude.{◌≡◌, ◌<◌, ◌^◌, ◌↔◌, IsTrue, IsSome, Some, None, slice_index};
 ghost use Rattle.bus_core.specs.Port.{Appends};
 ghost use Rattle.bus_core.specs.declared.operation.BusEntry.{BusEntry};
+ghost use Rattle.bus_core.specs.Turn.{IsWhole, count_note};
 ghost use Rattle.counted_ring.specs.Place.{IsPlace, span, entry_words};
 ghost use Rattle.counted_ring.specs.PosterView.{PosterTurn, Posting, Doorbell, fresh, forgotten};
-ghost use Rattle.counted_ring.specs.Turn.{CanServe, count_note};
+ghost use Rattle.counted_ring.specs.Turn.{CanServe};
 
 use crate::place::{WqPlace, outstanding};
 use bus_core::{BusPort, Note, Step};
@@ -162,7 +163,8 @@ impl WqPoster {
     pub fn turn<P: BusPort>(&mut self, port: &mut P) -> Step<(), Posted>
         requires busy { IsSome self.old.task }
         requires port { CanServe self.old.place (P.port port.old) }
-        ensures { (e : BusEntry) × Appends (P.port port.old) (P.port port.new) e × PosterTurn self.old self.new e result }
+        ensures made { (e : BusEntry) × Appends (P.port port.old) (P.port port.new) e × PosterTurn self.old self.new e result }
+        ensures whole { IsWhole result }
     {
         match self.phase {
             Phase::Idle => unreachable!(),

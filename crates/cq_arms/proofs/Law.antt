@@ -10,7 +10,7 @@ use Rattle.cq_arms.specs.Arms.{Arms, ArmEvent, MayHappen, MayAsk, after_event, f
 use Rattle.cq_arms.specs.Mark.{ArmMark, Acknowledge, ArmParty, ByArmer, ByReader, ByAdapter, Beside, party_of}
 use Rattle.cq_arms.specs.Device.{IsHarmless}
 use Rattle.cq_arms.specs.Law.{ArmSides, beside_says, after_by, says_by, after_any, any_says, fresh_sides, IsRun, history}
-use Rattle.cq_arms.proofs.Asking.{Asked, legal_by_asking}
+use Rattle.bus_core.proofs.Asking.{MayAskFor, ends_by_asking}
 use Rattle.cq_arms.proofs.Parties.{may_by, MayAny, keeps_all}
 use Rattle.cq_arms.proofs.Tied.{Tied, Goes, AsksFor, start_tied}
 use Rattle.cq_arms.proofs.HostStep.{armer_step, reader_step}
@@ -27,7 +27,7 @@ module _ (place : ArmPlace) where
   advances m s a None g = g
   advances m s a (Some event) g = g
 
-  asked : (a : Arms) (said : Option ArmEvent) → Asked MayHappen MayAsk after_event Holds a said → AsksFor a said
+  asked : (a : Arms) (said : Option ArmEvent) → MayAskFor MayHappen MayAsk after_event Holds a said → AsksFor a said
   asked a None ask = ask
   asked a (Some event) ask = ask
 
@@ -42,10 +42,10 @@ module _ (place : ArmPlace) where
   step_by ByAdapter m s a x ok t tells may ask = device_step place m s.armer s.reader s.scanner a x.mark x.entry ok t tells may ask
   step_by Beside m s a x ok t tells may ask = beside_step m s a x.mark x.entry t may ask
 
-  step : (m : Memory) (s : ArmSides) (a : Arms) (x : Marked ArmMark) → IsPlace place → Holds m s a → Tells m x.entry → MayAny place s x → Asked MayHappen MayAsk after_event Holds a (any_says s x) → Advances (after_entry m x.entry) (after_any s x) a (any_says s x)
+  step : (m : Memory) (s : ArmSides) (a : Arms) (x : Marked ArmMark) → IsPlace place → Holds m s a → Tells m x.entry → MayAny place s x → MayAskFor MayHappen MayAsk after_event Holds a (any_says s x) → Advances (after_entry m x.entry) (after_any s x) a (any_says s x)
   step m s a x ok t tells may ask = advances (after_entry m x.entry) (after_any s x) a (any_says s x) (step_by (party_of x.mark) m s a x ok t tells may (asked a (any_says s x) ask))
 
 pub run_is_legal : (place : ArmPlace) (index : ℕ) (start : Memory) (trace : List (Marked ArmMark)) → IsRun place index start trace → IsLegal (fresh_arms index) (history index trace)
 run_is_legal place index start trace r =
-    legal_by_asking MayHappen MayAsk after_event (Holds place) (λ (x : Marked ArmMark). x.entry) (MayAny place) after_any any_says (λ m s a x t tells may ask. step place m s a x r.place_ok t tells may ask)
-    trace start (fresh_sides index) (fresh_arms index) (start_tied place index start r.start_ok) r.consistent (keeps_all place index start trace r) r.asks
+    (ends_by_asking MayHappen MayAsk after_event (Holds place) (λ (x : Marked ArmMark). x.entry) (MayAny place) after_any any_says (λ m s a x t tells may ask. step place m s a x r.place_ok t tells may ask)
+    trace start (fresh_sides index) (fresh_arms index) (start_tied place index start r.start_ok) r.consistent (keeps_all place index start trace r) r.asks).0

@@ -4,7 +4,6 @@ pub mod Tied
 pub mod HostStep
 pub mod DeviceStep
 pub mod Parties
-pub mod Asking
 pub mod Law
 pub mod Judging
 pub mod Served

@@ -2,9 +2,10 @@
 ghost use Rattle.std.specs.Prelude.{◌≡◌, ◌↔◌, IsTrue, IsSome, Some, None};
 ghost use Rattle.bus_core.specs.Port.{Appends};
 ghost use Rattle.bus_core.specs.declared.operation.BusEntry.{BusEntry};
+ghost use Rattle.bus_core.specs.Turn.{IsWhole, count_note};
 ghost use Rattle.cq_arms.specs.Armer.{Ready, KnowsLess};
 ghost use Rattle.cq_arms.specs.ArmerView.{ArmerTurn, forgotten};
-ghost use Rattle.cq_arms.specs.Turn.{CanServe, count_note};
+ghost use Rattle.cq_arms.specs.Turn.{CanServe};
 
 use crate::arm_word::{Arm, Armed, next_arm};
 use crate::place::ArmPlace;
@@ -105,7 +106,8 @@ impl CqArmer {
     pub fn turn<P: BusPort>(&mut self, port: &mut P) -> Step<(), Armed>
         requires busy { IsSome self.old.task }
         requires port { CanServe self.old.place (P.port port.old) }
-        ensures { (e : BusEntry) × Appends (P.port port.old) (P.port port.new) e × ArmerTurn self.old self.new e result }
+        ensures made { (e : BusEntry) × Appends (P.port port.old) (P.port port.new) e × ArmerTurn self.old self.new e result }
+        ensures whole { IsWhole result }
     {
         match self.phase {
             Phase::Idle => unreachable!(),

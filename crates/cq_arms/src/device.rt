@@ -2,9 +2,10 @@
 ghost use Rattle.std.specs.Prelude.{◌≡◌, ◌+◌, ◌<◌, ◌^◌, ◌↔◌, IsTrue, None, true, false};
 ghost use Rattle.bus_core.specs.Port.{Appends};
 ghost use Rattle.bus_core.specs.declared.operation.BusEntry.{BusEntry};
+ghost use Rattle.bus_core.specs.Turn.{IsWhole, count_note};
 ghost use Rattle.cq_arms.specs.Device.{judged, notice, publish};
 ghost use Rattle.cq_arms.specs.DeviceView.{DeviceTurn};
-ghost use Rattle.cq_arms.specs.Turn.{CanServe, count_note};
+ghost use Rattle.cq_arms.specs.Turn.{CanServe};
 ghost use Rattle.cq_arms.specs.Words.{no_arm, arm_note};
 
 use crate::arm_word::{Armed, NO_ARM, note_of};
@@ -149,7 +150,8 @@ impl ArmDevice {
     pub fn turn<P: BusPort>(&mut self, port: &mut P) -> Step<(), ArmSeen>
         requires busy { IsTrue self.old.looking }
         requires port { CanServe self.old.place (P.port port.old) }
-        ensures { (e : BusEntry) × Appends (P.port port.old) (P.port port.new) e × DeviceTurn self.old self.new e result }
+        ensures made { (e : BusEntry) × Appends (P.port port.old) (P.port port.new) e × DeviceTurn self.old self.new e result }
+        ensures whole { IsWhole result }
     {
         self.looking = false;
         let word = port.load(self.place.arm_reg);

@@ -2,6 +2,7 @@
 ghost use Rattle.std.specs.Prelude.{◌≡◌, ◌<◌, ◌^◌, ◌↔◌, IsTrue, false};
 ghost use Rattle.bus_core.specs.Port.{Appends};
 ghost use Rattle.bus_core.specs.declared.operation.BusEntry.{BusEntry};
+ghost use Rattle.bus_core.specs.Turn.{IsWhole};
 ghost use Rattle.cq_arms.specs.ReaderView.{ReaderTurn, counts};
 ghost use Rattle.cq_arms.specs.Turn.{CanServe};
 
@@ -78,7 +79,8 @@ impl EventReader {
     pub fn turn<P: BusPort>(&mut self, port: &mut P) -> Step<(), Raised>
         requires busy { IsTrue self.old.raising }
         requires port { CanServe self.old.place (P.port port.old) }
-        ensures { (e : BusEntry) × Appends (P.port port.old) (P.port port.new) e × ReaderTurn self.old self.new e result }
+        ensures made { (e : BusEntry) × Appends (P.port port.old) (P.port port.new) e × ReaderTurn self.old self.new e result }
+        ensures whole { IsWhole result }
     {
         self.taken += 1;
         self.raising = false;

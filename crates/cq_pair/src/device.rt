@@ -2,10 +2,11 @@
 ghost use Rattle.std.specs.Prelude.{◌≡◌, ◌<◌, ◌^◌, ◌↔◌, IsTrue, IsSome, Some, None};
 ghost use Rattle.bus_core.specs.Port.{Appends};
 ghost use Rattle.bus_core.specs.declared.operation.BusEntry.{BusEntry};
+ghost use Rattle.bus_core.specs.Turn.{IsWhole, count_note};
 ghost use Rattle.cqe_format.specs.Completion.{IsCompletion};
 ghost use Rattle.owner_ring.specs.Place.{IsPlace};
 ghost use Rattle.owner_ring.specs.Producer.{next_index};
-ghost use Rattle.owner_ring.specs.Turn.{CanServe, count_note};
+ghost use Rattle.owner_ring.specs.Turn.{CanServe};
 ghost use Rattle.cq_pair.specs.Law.{fresh_device};
 ghost use Rattle.cq_pair.specs.Place.{ring_of};
 ghost use Rattle.cq_pair.specs.DeviceView.{DeviceTurn};
@@ -97,7 +98,8 @@ impl CqDevice {
     pub fn turn<P: BusPort>(&mut self, port: &mut P) -> Step<(), CqSeen>
         requires busy { IsSome self.old.task }
         requires port { CanServe (ring_of self.old.place) (P.port port.old) }
-        ensures { (e : BusEntry) × Appends (P.port port.old) (P.port port.new) e × DeviceTurn self.old self.new e result }
+        ensures made { (e : BusEntry) × Appends (P.port port.old) (P.port port.new) e × DeviceTurn self.old self.new e result }
+        ensures whole { IsWhole result }
     {
         if self.overrun {
             port.load(self.place.dbr);

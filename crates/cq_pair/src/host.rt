@@ -2,9 +2,10 @@
 ghost use Rattle.std.specs.Prelude.{◌≡◌, ◌<◌, ◌^◌, ◌↔◌, IsTrue, IsSome, Some, None};
 ghost use Rattle.bus_core.specs.Port.{Appends};
 ghost use Rattle.bus_core.specs.declared.operation.BusEntry.{BusEntry};
+ghost use Rattle.bus_core.specs.Turn.{IsWhole, count_note};
 ghost use Rattle.owner_ring.specs.Place.{IsPlace};
 ghost use Rattle.owner_ring.specs.Consumer.{Waiting, KnowsLess, next_index};
-ghost use Rattle.owner_ring.specs.Turn.{CanServe, count_note};
+ghost use Rattle.owner_ring.specs.Turn.{CanServe};
 ghost use Rattle.cq_pair.specs.Place.{ring_of};
 ghost use Rattle.cq_pair.specs.HostInside.{IsAnswerTo};
 ghost use Rattle.cq_pair.specs.HostView.{HostTurn, PollOne, Acknowledgement, forgotten};
@@ -120,7 +121,8 @@ impl CqHost {
     pub fn turn<P: BusPort>(&mut self, port: &mut P) -> Step<(), CqDone>
         requires busy { IsSome self.old.task }
         requires port { CanServe (ring_of self.old.place) (P.port port.old) }
-        ensures { (e : BusEntry) × Appends (P.port port.old) (P.port port.new) e × HostTurn self.old self.new e result }
+        ensures made { (e : BusEntry) × Appends (P.port port.old) (P.port port.new) e × HostTurn self.old self.new e result }
+        ensures whole { IsWhole result }
     {
         answered(self.ring.turn(port))
     }

@@ -2,8 +2,9 @@
 ghost use Rattle.std.specs.Prelude.{◌≡◌, ◌<◌, ◌^◌, ◌↔◌, IsTrue, IsSome, Some, None};
 ghost use Rattle.bus_core.specs.Port.{Appends};
 ghost use Rattle.bus_core.specs.declared.operation.BusEntry.{BusEntry};
+ghost use Rattle.bus_core.specs.Turn.{IsWhole, count_note};
 ghost use Rattle.owner_ring.specs.Place.{IsPlace};
-ghost use Rattle.owner_ring.specs.Turn.{CanServe, count_note};
+ghost use Rattle.owner_ring.specs.Turn.{CanServe};
 ghost use Rattle.eq_pair.specs.Law.{fresh_writer};
 ghost use Rattle.eq_pair.specs.Place.{ring_of};
 ghost use Rattle.eq_pair.specs.DeviceView.{DeviceTurn};
@@ -86,7 +87,8 @@ impl EqDevice {
     pub fn turn<P: BusPort>(&mut self, port: &mut P) -> Step<(), ()>
         requires busy { IsSome self.old.task }
         requires port { CanServe (ring_of self.old.place) (P.port port.old) }
-        ensures { (e : BusEntry) × Appends (P.port port.old) (P.port port.new) e × DeviceTurn self.old self.new e result }
+        ensures made { (e : BusEntry) × Appends (P.port port.old) (P.port port.new) e × DeviceTurn self.old self.new e result }
+        ensures whole { IsWhole result }
     {
         match self.ring.turn(port) {
             Step::Done(_) => {

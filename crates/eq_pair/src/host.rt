@@ -2,8 +2,9 @@
 ghost use Rattle.std.specs.Prelude.{◌≡◌, ◌<◌, ◌^◌, ◌↔◌, IsTrue, Some, None, true, false};
 ghost use Rattle.bus_core.specs.Port.{Appends};
 ghost use Rattle.bus_core.specs.declared.operation.BusEntry.{BusEntry};
+ghost use Rattle.bus_core.specs.Turn.{IsWhole, count_note};
 ghost use Rattle.owner_ring.specs.Place.{IsPlace};
-ghost use Rattle.owner_ring.specs.Turn.{CanServe, count_note};
+ghost use Rattle.owner_ring.specs.Turn.{CanServe};
 ghost use Rattle.eq_pair.specs.Law.{fresh_taker};
 ghost use Rattle.eq_pair.specs.Place.{ring_of};
 ghost use Rattle.eq_pair.specs.Host.{IsReadAs, KnowsLess, next_index};
@@ -112,7 +113,8 @@ impl EqHost {
     pub fn turn<P: BusPort>(&mut self, port: &mut P) -> Step<(), EqTaken>
         requires busy { IsTrue self.old.taking }
         requires port { CanServe (ring_of self.old.place) (P.port port.old) }
-        ensures { (e : BusEntry) × Appends (P.port port.old) (P.port port.new) e × HostTurn self.old self.new e result }
+        ensures made { (e : BusEntry) × Appends (P.port port.old) (P.port port.new) e × HostTurn self.old self.new e result }
+        ensures whole { IsWhole result }
     {
         if let Some(event) = self.event.take() {
             self.ring.turn(port);

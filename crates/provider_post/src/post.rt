@@ -2,6 +2,7 @@
 ghost use Rattle.std.specs.Prelude.{◌≡◌, ◌<◌, ◌≤◌, ◌+◌, ◌^◌, ◌↔◌, IsTrue, IsSome, Some, None, length, map};
 ghost use Rattle.bus_core.specs.Port.{Appends};
 ghost use Rattle.bus_core.specs.declared.operation.BusEntry.{BusEntry};
+ghost use Rattle.bus_core.specs.Turn.{IsWhole};
 ghost use Rattle.counted_ring.specs.Turn.{CanServe};
 ghost use Rattle.verbs_types.specs.Lines.{is_among};
 ghost use Rattle.verbs_types.specs.declared.completion.Queue.TheVariants.{Send};
@@ -116,7 +117,8 @@ impl PostSide {
         requires busy { IsSome self.old.call }
         requires list { IsListOf self.old (map TheRequest list.now) }
         requires port { CanServe self.old.poster.place (P.port port.old) }
-        ensures { (e : BusEntry) × Appends (P.port port.old) (P.port port.new) e × PostTurn self.old self.new (map TheRequest list.now) e result }
+        ensures made { (e : BusEntry) × Appends (P.port port.old) (P.port port.new) e × PostTurn self.old self.new (map TheRequest list.now) e result }
+        ensures whole { IsWhole result }
     {
         begin_next(&mut self.side, self.number, list);
         self.side.turn(port)

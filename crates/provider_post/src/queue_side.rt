@@ -2,6 +2,7 @@
 ghost use Rattle.std.specs.Prelude.{◌≡◌, ◌<◌, ◌≤◌, ◌+◌, ◌^◌, ◌↔◌, IsTrue, IsSome, IfSome, Some, None, slice_index};
 ghost use Rattle.bus_core.specs.Port.{Appends};
 ghost use Rattle.bus_core.specs.declared.operation.BusEntry.{BusEntry};
+ghost use Rattle.bus_core.specs.Turn.{IsWhole};
 ghost use Rattle.counted_ring.specs.Place.{IsPlace, span, entry_words};
 ghost use Rattle.counted_ring.specs.PosterView.{Posting};
 ghost use Rattle.counted_ring.specs.Turn.{CanServe};
@@ -145,7 +146,8 @@ impl QueueSide {
         requires busy { IsSome self.old.call }
         requires begun { next_of self.old ≡ None }
         requires port { CanServe self.old.poster.place (P.port port.old) }
-        ensures { (e : BusEntry) × Appends (P.port port.old) (P.port port.new) e × QueueTurn self.old self.new e result }
+        ensures made { (e : BusEntry) × Appends (P.port port.old) (P.port port.new) e × QueueTurn self.old self.new e result }
+        ensures whole { IsWhole result }
     {
         let Some(call) = self.call else {
             unreachable!()

@@ -3,6 +3,7 @@ ghost use Rattle.std.specs.Prelude.{◌≡◌, ◌<◌, ◌≤◌, ◌+◌, ◌^
 ghost use Rattle.std.specs.List.{AllByRecursion};
 ghost use Rattle.bus_core.specs.Port.{Appends};
 ghost use Rattle.bus_core.specs.declared.operation.BusEntry.{BusEntry};
+ghost use Rattle.bus_core.specs.Turn.{IsWhole};
 ghost use Rattle.counted_ring.specs.Turn.{CanServe};
 ghost use Rattle.verbs_types.specs.Lines.{is_among};
 ghost use Rattle.verbs_types.specs.declared.completion.Queue.TheVariants.{Recv};
@@ -121,7 +122,8 @@ impl RecvSide {
         requires busy { IsSome self.old.call }
         requires list { IsListOf self.old (map TheReceive list.now) }
         requires port { CanServe self.old.poster.place (P.port port.old) }
-        ensures { (e : BusEntry) × Appends (P.port port.old) (P.port port.new) e × PostTurn self.old self.new (map TheReceive list.now) e result }
+        ensures made { (e : BusEntry) × Appends (P.port port.old) (P.port port.new) e × PostTurn self.old self.new (map TheReceive list.now) e result }
+        ensures whole { IsWhole result }
     {
         begin_next(&mut self.side, self.stride, list);
         self.side.turn(port)

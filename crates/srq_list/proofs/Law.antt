@@ -21,7 +21,7 @@ use Rattle.srq_list.proofs.PosterStep.{poster_step}
 use Rattle.srq_list.proofs.FreerStep.{freer_step}
 use Rattle.srq_list.proofs.DeviceStep.{device_step}
 use Rattle.srq_list.proofs.Users.{may_by, keeps_all}
-use Rattle.srq_list.proofs.Asking.{MayAskFor, ends_by_asking}
+use Rattle.bus_core.proofs.Asking.{MayAskFor, ends_by_asking}
 
 -- at the start the list is empty, and all slots are free
 pub start_tied : (place : SrqPlace) (start : ℕ) (m : Memory) → IsPlace place → IsStart place start m → Tied place start m (fresh_users place).poster (fresh_users place).freer (fresh_users place).taker (empty_queue place)

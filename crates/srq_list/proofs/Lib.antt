@@ -7,7 +7,6 @@ pub mod DeviceStep
 pub mod FreerStep
 pub mod PosterStep
 pub mod Users
-pub mod Asking
 pub mod Law
 pub mod FreeChain
 pub mod SharesSlots

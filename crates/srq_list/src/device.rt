@@ -2,9 +2,10 @@
 ghost use Rattle.std.specs.Prelude.{◌≡◌, ◌<◌, ◌^◌, ◌↔◌, IsTrue, true, false};
 ghost use Rattle.bus_core.specs.Port.{Appends};
 ghost use Rattle.bus_core.specs.declared.operation.BusEntry.{BusEntry};
+ghost use Rattle.bus_core.specs.Turn.{IsWhole, count_note};
 ghost use Rattle.srq_list.specs.Place.{IsPlace};
 ghost use Rattle.srq_list.specs.DeviceView.{DeviceTurn, fresh};
-ghost use Rattle.srq_list.specs.Turn.{CanServe, count_note};
+ghost use Rattle.srq_list.specs.Turn.{CanServe};
 
 use crate::place::{SrqPlace, record_of, shown};
 use bus_core::{BusPort, Note, Step};
@@ -110,7 +111,8 @@ impl SrqDevice {
     pub fn turn<P: BusPort>(&mut self, port: &mut P) -> Step<(), SrqTaken>
         requires busy { self.old.busy ≡ true }
         requires port { CanServe self.old.place (P.port port.old) }
-        ensures { (e : BusEntry) × Appends (P.port port.old) (P.port port.new) e × DeviceTurn self.old self.new e result }
+        ensures made { (e : BusEntry) × Appends (P.port port.old) (P.port port.new) e × DeviceTurn self.old self.new e result }
+        ensures whole { IsWhole result }
     {
         match self.phase {
             Phase::Idle => unreachable!(),

@@ -2,9 +2,10 @@
 ghost use Rattle.std.specs.Prelude.{◌≡◌, ◌-◌, ◌↔◌, IsTrue, IsSome, Some, None};
 ghost use Rattle.bus_core.specs.Port.{Appends};
 ghost use Rattle.bus_core.specs.declared.operation.BusEntry.{BusEntry};
+ghost use Rattle.bus_core.specs.Turn.{IsWhole, count_note};
 ghost use Rattle.srq_list.specs.Place.{IsPlace, size, slot_of};
 ghost use Rattle.srq_list.specs.FreerView.{FreerTurn, Search, Release, fresh, forgotten};
-ghost use Rattle.srq_list.specs.Turn.{CanServe, count_note};
+ghost use Rattle.srq_list.specs.Turn.{CanServe};
 
 use crate::place::{SrqPlace, link_word};
 use bus_core::{BusPort, Note, Step};
@@ -112,7 +113,8 @@ impl SrqFreer {
     pub fn turn<P: BusPort>(&mut self, port: &mut P) -> Step<(), SrqFreed>
         requires busy { IsSome self.old.task }
         requires port { CanServe self.old.place (P.port port.old) }
-        ensures { (e : BusEntry) × Appends (P.port port.old) (P.port port.new) e × FreerTurn self.old self.new e result }
+        ensures made { (e : BusEntry) × Appends (P.port port.old) (P.port port.new) e × FreerTurn self.old self.new e result }
+        ensures whole { IsWhole result }
     {
         match self.phase {
             Phase::Idle => unreachable!(),

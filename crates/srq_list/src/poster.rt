@@ -2,9 +2,10 @@
 ghost use Rattle.std.specs.Prelude.{◌≡◌, ◌+◌, ◌<◌, ◌^◌, ◌↔◌, IsTrue, IsSome, Some, None, take};
 ghost use Rattle.bus_core.specs.Port.{Appends};
 ghost use Rattle.bus_core.specs.declared.operation.BusEntry.{BusEntry};
+ghost use Rattle.bus_core.specs.Turn.{IsWhole, count_note};
 ghost use Rattle.srq_list.specs.Place.{IsPlace, entry_words};
 ghost use Rattle.srq_list.specs.PosterView.{PosterTurn, Post, Doorbell, fresh, forgotten};
-ghost use Rattle.srq_list.specs.Turn.{CanServe, count_note};
+ghost use Rattle.srq_list.specs.Turn.{CanServe};
 
 use crate::place::{SrqPlace, record_of};
 use bus_core::{BusPort, Note, Step};
@@ -144,7 +145,8 @@ impl SrqPoster {
     pub fn turn<P: BusPort>(&mut self, port: &mut P) -> Step<(), SrqPosted>
         requires busy { IsSome self.old.task }
         requires port { CanServe self.old.place (P.port port.old) }
-        ensures { (e : BusEntry) × Appends (P.port port.old) (P.port port.new) e × PosterTurn self.old self.new e result }
+        ensures made { (e : BusEntry) × Appends (P.port port.old) (P.port port.new) e × PosterTurn self.old self.new e result }
+        ensures whole { IsWhole result }
     {
         match self.phase {
             Phase::Idle => unreachable!(),

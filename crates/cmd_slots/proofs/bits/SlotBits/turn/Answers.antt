@@ -8,8 +8,8 @@ use Rattle.cmd_slots.specs.BitsView.{BitsView}
 use Rattle.cmd_slots.proofs.Found.{has_bit_or}
 use Rattle.cmd_slots.proofs.bits.SlotBits.turn.Goals as goal
 
-pub returns : goal.returns
-returns g c =
+pub returns-clause-made : goal.returns-clause-made
+returns-clause-made g c =
     let bits : ℕ = c.self.inside.bits in
     let word : ℕ = c.swap-word.result in
     let same : bits ≡ c.args.self.now.bits = ap (λ (v : BitsView). v.bits) c.self.view_is in

@@ -31,8 +31,8 @@ invariant_of-self-in-Some g c =
       work = subst (λ (question : Result Command Answer). IsJudged a.answered question) (sym c.of.ensures) (reads_judged a.slot a.answered c.in-Reading.count c.load.result a.loaded full reading c.in-Some.question (sym c.judge.ensures ∙ c.in-Some.is));
     }
 
-pub returns-in-Some : goal.returns-in-Some
-returns-in-Some g c =
+pub returns-in-Some-clause-made : goal.returns-in-Some-clause-made
+returns-in-Some-clause-made g c =
     let a = c.self.inside in
     let full : length a.loaded ≡ 296 = search in
     let reading = subst (IsAtWork a.answered a.loaded a.question.value a.answer.value (take a.long a.words) a.long) c.in-Reading.is c.self.invariant.work in

@@ -19,8 +19,8 @@ invariant_of-self-else-loaded-blocks g c =
       work = reads_more a.place a.next a.ready a.register c.in-Reading.loaded c.load-in-Reading.result c.reach-blocks.result a.words c.self.invariant.place_ok full reads r.reach r.some r.ready r.few c.if-loaded-blocks.false;
     }
 
-pub returns-then-loaded-blocks : goal.returns-then-loaded-blocks
-returns-then-loaded-blocks g c =
+pub returns-then-loaded-blocks-clause-made : goal.returns-then-loaded-blocks-clause-made
+returns-then-loaded-blocks-clause-made g c =
     let a = c.self.inside in
     let full : length a.words ≡ 32 = search in
     let reads = subst (IsAtWork a.place a.next a.ready a.words) c.in-Reading.is c.self.invariant.work in
@@ -30,8 +30,8 @@ returns-then-loaded-blocks g c =
     let turn = turn_whole a.place a.next a.ready a.register c.in-Reading.loaded c.load-in-Reading.result c.reach-blocks.result a.words c.self.invariant.place_ok full reads r.reach r.some r.ready r.few e (record { op = refl; at_address = c.word_at-address.ensures.at }) c.word_at-address.ensures.inside refl c.args.self.now seen c.if-loaded-blocks.true in
     (e, c.load-in-Reading.ensures, turn)
 
-pub returns-else-loaded-blocks : goal.returns-else-loaded-blocks
-returns-else-loaded-blocks g c =
+pub returns-else-loaded-blocks-clause-made : goal.returns-else-loaded-blocks-clause-made
+returns-else-loaded-blocks-clause-made g c =
     let a = c.self.inside in
     let full : length a.words ≡ 32 = search in
     let reads = subst (IsAtWork a.place a.next a.ready a.words) c.in-Reading.is c.self.invariant.work in

@@ -9,8 +9,8 @@ use Rattle.counted_ring.proofs.Parts.{word_few}
 use Rattle.counted_ring.proofs.PosterTurns.{turn_more, turn_whole}
 use Rattle.counted_ring.proofs.poster.WqPoster.turn.Goals as goal
 
-pub returns-then-stored-self : goal.returns-then-stored-self
-returns-then-stored-self g c =
+pub returns-then-stored-self-clause-made : goal.returns-then-stored-self-clause-made
+returns-then-stored-self-clause-made g c =
     let a = c.self.inside in
     let full : length a.entry.words ≡ 32 = search (c.self.ranges) in
     let work = subst (IsAtWork a.place a.posts.count a.posts.index a.entry) c.in-Storing.is c.self.invariant.work in
@@ -20,8 +20,8 @@ returns-then-stored-self g c =
     let turn = turn_whole a.place a.posts.count a.posts.index a.posts.first a.id a.seen c.in-Storing.stored (side_in a.rung Ready) a.entry full few work.0.spans e (record { op = refl; at_address = c.word_at-address.ensures.at }) c.word_at-address.ensures.inside c.args.self.now seen c.if-stored-self.true in
     (e, search, turn)
 
-pub returns-else-stored-self : goal.returns-else-stored-self
-returns-else-stored-self g c =
+pub returns-else-stored-self-clause-made : goal.returns-else-stored-self-clause-made
+returns-else-stored-self-clause-made g c =
     let a = c.self.inside in
     let full : length a.entry.words ≡ 32 = search (c.self.ranges) in
     let work = subst (IsAtWork a.place a.posts.count a.posts.index a.entry) c.in-Storing.is c.self.invariant.work in

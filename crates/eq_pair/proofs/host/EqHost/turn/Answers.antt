@@ -5,8 +5,8 @@ use Rattle.owner_ring.specs.ConsumerView.{ConsumerTurn}
 use Rattle.eq_pair.proofs.LastWord.{IsTaking, takes_event}
 use Rattle.eq_pair.proofs.host.EqHost.turn.Goals as goal
 
-pub returns-in-Done-Entry : goal.returns-in-Done-Entry
-returns-in-Done-Entry g c =
+pub returns-in-Done-Entry-clause-made : goal.returns-in-Done-Entry-clause-made
+returns-in-Done-Entry-clause-made g c =
     let a = c.self.inside in
     let made = c.in-Done-Entry.ensures in
     let taking : IsTaking a.place a.event a.ring c.args.self.now = record { same = c.self.invariant.ring_is; side_is = c.self.invariant.side_is; task_is = c.self.invariant.task_is; seen_as = c.self.view_is; busy = c.requires.busy } in

@@ -5,8 +5,8 @@ use Rattle.provider_post.specs.Side.{PostView, PostTurn}
 use Rattle.provider_post.proofs.Items.{posted}
 use Rattle.provider_post.proofs.post.PostSide.turn.Goals as goal
 
-pub returns : goal.returns
-returns g c =
+pub returns-clause-made : goal.returns-clause-made
+returns-clause-made g c =
     let items = map TheRequest c.args.list.now in
     let busy = subst (λ (v : PostView). IsSome v.call) (sym c.self.view_is) c.requires.busy in
-    let turn = posted c.self.inside.side c.begin_next.new.side c.turn.new.self items c.turn.ensures.0 c.turn.result busy c.begin_next.ensures c.turn.ensures.2 in (c.turn.ensures.0, c.turn.ensures.1, subst (λ (v : PostView). PostTurn v c.turn.new.self items c.turn.ensures.0 c.turn.result) c.self.view_is turn)
+    let turn = posted c.self.inside.side c.begin_next.new.side c.turn.new.self items c.turn.ensures.made.0 c.turn.result busy c.begin_next.ensures c.turn.ensures.made.2 in (c.turn.ensures.made.0, c.turn.ensures.made.1, subst (λ (v : PostView). PostTurn v c.turn.new.self items c.turn.ensures.made.0 c.turn.result) c.self.view_is turn)

@@ -17,8 +17,8 @@ invariant_of-self g c =
     let call = c.in-Some.call in
     let side = subst (λ (o : Option Call). IsSide a.poster a.queue o) c.in-Some.is c.self.invariant in
     let begun : next_in a.poster.task (Some call) ≡ None = subst (λ (o : Option Call). next_in a.poster.task o ≡ None) c.in-Some.is (subst (λ (v : PostView). next_of v ≡ None) (sym c.self.view_is) c.requires.begun) in
-    let t = turned a.poster c.begin_ring.new.poster c.turn.new.self a.queue a.noted call c.turn.ensures.0 c.turn.result c.told-told.result c.after-next.result c.left-self-inside.result c.note_of-self-inside.result
-    side begun c.begin_ring.ensures c.turn.ensures.2
+    let t = turned a.poster c.begin_ring.new.poster c.turn.new.self a.queue a.noted call c.turn.ensures.made.0 c.turn.result c.told-told.result c.after-next.result c.left-self-inside.result c.note_of-self-inside.result
+    side begun c.begin_ring.ensures c.turn.ensures.made.2
     (record {
       told_is = c.told-told.ensures;
       next_is = c.after-next.ensures;
@@ -28,14 +28,14 @@ invariant_of-self g c =
     in
     t.side
 
-pub returns : goal.returns
-returns g c =
+pub returns-clause-made : goal.returns-clause-made
+returns-clause-made g c =
     let a = c.self.inside in
     let call = c.in-Some.call in
     let side = subst (λ (o : Option Call). IsSide a.poster a.queue o) c.in-Some.is c.self.invariant in
     let begun : next_in a.poster.task (Some call) ≡ None = subst (λ (o : Option Call). next_in a.poster.task o ≡ None) c.in-Some.is (subst (λ (v : PostView). next_of v ≡ None) (sym c.self.view_is) c.requires.begun) in
-    let t = turned a.poster c.begin_ring.new.poster c.turn.new.self a.queue a.noted call c.turn.ensures.0 c.turn.result c.told-told.result c.after-next.result c.left-self-inside.result c.note_of-self-inside.result
-    side begun c.begin_ring.ensures c.turn.ensures.2
+    let t = turned a.poster c.begin_ring.new.poster c.turn.new.self a.queue a.noted call c.turn.ensures.made.0 c.turn.result c.told-told.result c.after-next.result c.left-self-inside.result c.note_of-self-inside.result
+    side begun c.begin_ring.ensures c.turn.ensures.made.2
     (record {
       told_is = c.told-told.ensures;
       next_is = c.after-next.ensures;
@@ -45,8 +45,8 @@ returns g c =
     in
     let new : PostView = record { poster = c.turn.new.self; queue = a.queue; call = c.left-self-inside.result; noted = c.note_of-self-inside.result } in
     let old_is : record { poster = a.poster; queue = a.queue; call = Some call; noted = a.noted } ≡ c.args.self.now = ap (λ (o : Option Call). record { poster = a.poster; queue = a.queue; call = o; noted = a.noted }) (sym c.in-Some.is) ∙ c.self.view_is in (
-      c.turn.ensures.0,
-      c.turn.ensures.1,
-      subst (λ (v : PostView). QueueTurn v new c.turn.ensures.0 c.answer_with.result) old_is
-          (subst (λ (s : Step (Unit {0}) PostAnswer). QueueTurn (record { poster = a.poster; queue = a.queue; call = Some call; noted = a.noted }) new c.turn.ensures.0 s) (sym c.answer_with.ensures) t.turn),
+      c.turn.ensures.made.0,
+      c.turn.ensures.made.1,
+      subst (λ (v : PostView). QueueTurn v new c.turn.ensures.made.0 c.answer_with.result) old_is
+          (subst (λ (s : Step (Unit {0}) PostAnswer). QueueTurn (record { poster = a.poster; queue = a.queue; call = Some call; noted = a.noted }) new c.turn.ensures.made.0 s) (sym c.answer_with.ensures) t.turn),
     )

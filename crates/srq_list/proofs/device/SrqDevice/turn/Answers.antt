@@ -23,8 +23,8 @@ invariant_of-self-else-loaded-entry_words g c =
       };
     }
 
-pub returns-then-loaded-entry_words : goal.returns-then-loaded-entry_words
-returns-then-loaded-entry_words g c =
+pub returns-then-loaded-entry_words-clause-made : goal.returns-then-loaded-entry_words-clause-made
+returns-then-loaded-entry_words-clause-made g c =
     let a = c.self.inside in
     let ok = c.self.invariant.place_ok in
     let full : length a.words ≡ 16 = search in
