@@ -3,9 +3,8 @@ use Rattle.std.proofs.Common.{◌≡◌, ◌≢◌, ◌⊎◌, inl, inr, ℕ, �
 use Rattle.std.proofs.lemmas.Bool.{eq-eqb, eqb-true, false≢true}
 use Rattle.verbs_types.specs.declared.completion.Queue.{Queue}
 use Rattle.verbs_types.specs.declared.completion.Queue.TheVariants.{Send}
-use Rattle.verbs_rules.specs.Family.{put}
+use Rattle.verbs_rules.specs.Family.{put, same_number}
 use Rattle.verbs_rules.specs.Same.{same_queue}
-use Rattle.verbs_rules.specs.State.{WorkQueue, CompletionQueue}
 
 either_by : (j t : ℕ) (b : Bool) → (j == t) ≡ b → (j ≡ t) ⊎ (j ≢ t)
 either_by j t true e = inl (eqb-true j t e)
@@ -21,13 +20,17 @@ differs i j apart = by (i == j) refl
     by true e = absurd (apart (eqb-true i j e))
     by false e = refl
 
-choose : {V : Type 0} (P : ℕ → V → Type 0) (f : ℕ → V) (k : ℕ) (v : V) → P k v → ((i : ℕ) → i ≢ k → P i (f i)) → (i : ℕ) (b : Bool) → (i == k) ≡ b → P i (if b then v else f i)
-choose P f k v here others i true e = subst (λ (j : ℕ). P j v) (sym (eqb-true i k e)) here
-choose P f k v here others i false e = others i (λ same. absurd (false≢true (sym e ∙ eq-eqb i k same)))
+-- what holds at the key that was changed, of any number of families, and at the others
+pub number_by : (F : ℕ → Bool → Type 0) (key : ℕ) → F key true → ((i : ℕ) → i ≢ key → F i false) → (i : ℕ) → F i (i == key)
+number_by F key here others i = by (i == key) refl
+  where
+    by : (b : Bool) → (i == key) ≡ b → F i b
+    by true e = subst (λ (j : ℕ). F j true) (sym (eqb-true i key e)) here
+    by false e = others i (λ same. absurd (false≢true (sym e ∙ eq-eqb i key same)))
 
--- what holds of the changed send queue and of the others
-pub put_queue : (P : ℕ → WorkQueue → Type 0) (f : Queue → WorkQueue) (qp : ℕ) (u : WorkQueue) → P qp u → ((i : ℕ) → i ≢ qp → P i (f (Send i))) → (i : ℕ) → P i (put same_queue f (Send qp) u (Send i))
-put_queue P f qp u here others i = choose P (λ j. f (Send j)) qp u here others i (i == qp) refl
+-- what holds of the value put for one send queue, and of the others
+pub put_send : {V : Type 0} (P : ℕ → V → Type 0) (f : Queue → V) (qp : ℕ) (x : V) → P qp x → ((i : ℕ) → i ≢ qp → P i (f (Send i))) → (i : ℕ) → P i (put same_queue f (Send qp) x (Send i))
+put_send P f qp x here others i = number_by (λ j b. P j (if b then x else f (Send j))) qp here others i
 
-pub put_completions : (P : ℕ → CompletionQueue → Type 0) (f : ℕ → CompletionQueue) (cq : ℕ) (c : CompletionQueue) → P cq c → ((i : ℕ) → i ≢ cq → P i (f i)) → (i : ℕ) → P i (put (λ (m n : ℕ). m == n) f cq c i)
-put_completions P f cq c here others i = choose P f cq c here others i (i == cq) refl
+pub put_one : {V : Type 0} (P : ℕ → V → Type 0) (f : ℕ → V) (key : ℕ) (x : V) → P key x → ((i : ℕ) → i ≢ key → P i (f i)) → (i : ℕ) → P i (put same_number f key x i)
+put_one P f key x here others i = number_by (λ j b. P j (if b then x else f j)) key here others i

@@ -5,7 +5,7 @@ use Rattle.std.proofs.lemmas.List.Sums.{sum_by-append, sum_by-cons, sum_by-set}
 use Rattle.verbs_types.specs.declared.state.QueuePair.{QueuePair}
 use Rattle.verbs_rules.specs.Answered.{Due}
 use Rattle.verbs_rules.specs.Proper.{over_dues, Owes}
-use Rattle.verbs_rules.specs.Sane.{into}
+use Rattle.verbs_rules.specs.Within.{into}
 
 if_mono : (b : Bool) (m n : ℕ) → m ≤ n → (if b then m else 0) ≤ (if b then n else 0)
 if_mono true m n le = le

@@ -29,9 +29,9 @@ use Rattle.verbs_laws.proofs.Sameness.{same_completion_refl, same_completion-tru
 pub record MayPost (v : Verbs) (actor : ℕ) (queue : Queue) (items : List Item) : Type 0 where
   pub host : IsHost actor
   pub lives : queue_lives v queue ≡ true
-  pub room : length (v.queues queue).posted + length items - (v.queues queue).retired ≤ (v.queues queue).room
+  pub room : length (v.posted queue) + length items - (v.settled queue).retired ≤ (v.limits.room queue)
   pub some : 0 < length items
-  pub fit : list_all (item_fits queue (v.queues queue).segments) items ≡ true
+  pub fit : list_all (item_fits queue (v.limits.segments queue)) items ≡ true
 
 pub MayStep_post : {v : Verbs} {actor : ℕ} {queue : Queue} {items : List Item} → MayPost v actor queue items → MayStep v (record { actor = actor; what = Post queue items })
 MayStep_post {v} {actor} {queue} {items} h =
@@ -53,9 +53,9 @@ MayPost_by_step v actor queue items step =
 pub record MayPostFull (v : Verbs) (actor : ℕ) (queue : Queue) (pending head tail : ℕ) : Type 0 where
   pub host : IsHost actor
   pub lives : queue_lives v queue ≡ true
-  pub posted : head ≡ length (v.queues queue).posted + pending
-  pub retired : tail ≡ (v.queues queue).retired
-  pub full : head - tail ≡ (v.queues queue).room
+  pub posted : head ≡ length (v.posted queue) + pending
+  pub retired : tail ≡ (v.settled queue).retired
+  pub full : head - tail ≡ (v.limits.room queue)
 
 pub MayStep_full : {v : Verbs} {actor : ℕ} {queue : Queue} {pending head tail : ℕ} → MayPostFull v actor queue pending head tail → MayStep v (record { actor = actor; what = PostFull queue pending head tail })
 MayStep_full {v} {actor} {queue} {pending} {head} {tail} h =
@@ -75,19 +75,19 @@ MayPostFull_by_step v actor queue pending head tail step =
 
 pub record MayPoll (v : Verbs) (actor cq most : ℕ) (completions : List Completion) : Type 0 where
   pub host : IsHost actor
-  pub lives : v.completions_live cq ≡ true
+  pub lives : v.device.completions_live cq ≡ true
   pub named : list_all (names_living v) completions ≡ true
   pub least : 1 ≤ most
   pub greatest : most ≤ 16
   -- as many as there are, but no more than are asked for, from the front
-  pub front : completions ≡ map (λ (u : Unpolled). u.completion) (take most (v.completions cq).unpolled)
+  pub front : completions ≡ map (λ (u : Unpolled). u.completion) (take most (v.unpolled cq))
 
 front_length : (most : ℕ) (us : List Unpolled) → length (map (λ (u : Unpolled). u.completion) (take most us)) ≡ min most (length us)
 front_length most us = simp (length-map, length-take)
 
 pub MayStep_poll : {v : Verbs} {actor cq most : ℕ} {completions : List Completion} → MayPoll v actor cq most completions → MayStep v (record { actor = actor; what = Poll cq most completions })
 MayStep_poll {v} {actor} {cq} {most} {completions} h =
-    let us = (v.completions cq).unpolled in
+    let us = (v.unpolled cq) in
     let many : length completions ≡ min most (length us) = ap length h.front ∙ front_length most us in
     passes _ _ _ (host_is_host actor h.host)
     (passes _ _ _ (and_from _ _ h.lives h.named)
@@ -96,7 +96,7 @@ MayStep_poll {v} {actor} {cq} {most} {completions} h =
 
 pub MayPoll_by_step : (v : Verbs) (actor cq most : ℕ) (completions : List Completion) → MayStep v (record { actor = actor; what = Poll cq most completions }) → MayPoll v actor cq most completions
 MayPoll_by_step v actor cq most completions step =
-    let us = (v.completions cq).unpolled in
+    let us = (v.unpolled cq) in
     let by = passed _ _ _ step in
     let object = passed _ _ _ by.1 in
     let living = and_parts _ _ object.0 in
@@ -120,26 +120,26 @@ MayPoll_by_step v actor cq most completions step =
 pub record MayRetire (v : Verbs) (actor : ℕ) (queue : Queue) (count : ℕ) : Type 0 where
   pub host : IsHost actor
   pub lives : queue_lives v queue ≡ true
-  pub first : (v.queues queue).ends ≡ count ∷ rest_of (v.queues queue).ends
+  pub first : (v.settled queue).ends ≡ count ∷ rest_of (v.settled queue).ends
 
 pub MayStep_retire : {v : Verbs} {actor : ℕ} {queue : Queue} {count : ℕ} → MayRetire v actor queue count → MayStep v (record { actor = actor; what = Retire queue count })
 MayStep_retire {v} {actor} {queue} {count} h =
     passes _ _ _ (host_is_host actor h.host)
     (passes _ _ _ h.lives
-    (passes _ _ _ (first_is_first count (v.queues queue).ends h.first) refl))
+    (passes _ _ _ (first_is_first count (v.settled queue).ends h.first) refl))
 
 pub MayRetire_by_step : (v : Verbs) (actor : ℕ) (queue : Queue) (count : ℕ) → MayStep v (record { actor = actor; what = Retire queue count }) → MayRetire v actor queue count
 MayRetire_by_step v actor queue count step =
     let by = passed _ _ _ step in
     let object = passed _ _ _ by.1 in
-    record { host = is_host-true actor by.0; lives = object.0; first = is_first-true count (v.queues queue).ends (passed _ _ _ object.1).0 }
+    record { host = is_host-true actor by.0; lives = object.0; first = is_first-true count (v.settled queue).ends (passed _ _ _ object.1).0 }
 
 -- Ack
 
 pub record MayAck (v : Verbs) (actor cq index : ℕ) : Type 0 where
   pub host : IsHost actor
-  pub lives : v.completions_live cq ≡ true
-  pub oldest : index ≡ (v.completions cq).produced - length (v.completions cq).unpolled
+  pub lives : v.device.completions_live cq ≡ true
+  pub oldest : index ≡ (v.device.produced cq) - length (v.unpolled cq)
 
 pub MayStep_ack : {v : Verbs} {actor cq index : ℕ} → MayAck v actor cq index → MayStep v (record { actor = actor; what = Ack cq index })
 MayStep_ack {v} {actor} {cq} {index} h =
@@ -158,16 +158,16 @@ MayAck_by_step v actor cq index step =
 pub record MayFetch (v : Verbs) (actor : ℕ) (queue : Queue) (number : ℕ) : Type 0 where
   pub adapter : actor ≡ ADAPTER
   pub lives : queue_lives v queue ≡ true
-  pub idle : v.owed ≡ []
-  pub next : number ≡ (v.queues queue).taken + 1
-  pub posted : number ≤ length (v.queues queue).posted
+  pub idle : v.device.owed ≡ []
+  pub next : number ≡ (v.device.taken queue) + 1
+  pub posted : number ≤ length (v.posted queue)
   pub content : runs v queue number ≡ true
 
 pub MayStep_fetch : {v : Verbs} {actor : ℕ} {queue : Queue} {number : ℕ} → MayFetch v actor queue number → MayStep v (record { actor = actor; what = Fetch queue number })
 MayStep_fetch {v} {actor} {queue} {number} h =
     passes _ _ _ (eq-eqb actor ADAPTER h.adapter)
     (passes _ _ _ h.lives
-    (passes _ _ _ (nothing_is_idle v.owed h.idle)
+    (passes _ _ _ (nothing_is_idle v.device.owed h.idle)
     (passes _ _ _ (and_from _ _ (eq-eqb _ _ h.next) (le-leb _ _ h.posted))
     (passes _ _ _ h.content refl))))
 
@@ -181,32 +181,32 @@ MayFetch_by_step v actor queue number step =
     record {
       adapter = eqb-true actor ADAPTER by.0;
       lives = object.0;
-      idle = is_idle-true v.owed hand.0;
+      idle = is_idle-true v.device.owed hand.0;
       next = eqb-true _ _ counts.0;
       posted = leb-true _ _ counts.1;
       content = (passed _ _ _ count.1).0;
     }
 
 -- a NOP of a queue pair that may send
-pub runs_nop : (v : Verbs) (qp number : ℕ) (r : Request) → (v.pairs qp).state ≡ Rts → slice_get (v.queues (Send qp)).posted (number - 1) ≡ Some (TheRequest r) → r.op ≡ Nop → runs v (Send qp) number ≡ true
+pub runs_nop : (v : Verbs) (qp number : ℕ) (r : Request) → (v.device.pairs qp).state ≡ Rts → slice_get (v.posted (Send qp)) (number - 1) ≡ Some (TheRequest r) → r.op ≡ Nop → runs v (Send qp) number ≡ true
 runs_nop v qp number r state item op = rw (state, item, op) refl
 
 -- Publish
 
 pub record MayPublish (v : Verbs) (actor cq : ℕ) (completion : Completion) : Type 0 where
   pub adapter : actor ≡ ADAPTER
-  pub lives : v.completions_live cq ≡ true
+  pub lives : v.device.completions_live cq ≡ true
   pub named : names_living v completion ≡ true
   pub first : Unpolled
   pub others : List Act
-  pub owed : v.owed ≡ Complete cq first ∷ others
-  pub room : (v.completions cq).produced - (v.completions cq).acked < (v.completions cq).size
+  pub owed : v.device.owed ≡ Complete cq first ∷ others
+  pub room : (v.device.produced cq) - (v.acked cq) < (v.limits.size cq)
   pub content : completion ≡ first.completion
 
 pub MayStep_publish : {v : Verbs} {actor cq : ℕ} {completion : Completion} → MayPublish v actor cq completion → MayStep v (record { actor = actor; what = Publish cq completion })
 MayStep_publish {v} {actor} {cq} {completion} h =
-    let owner : owes_for cq v.owed ≡ true = rw h.owed (eq-eqb cq cq refl) in
-    let same : owes completion v.owed ≡ true = rw (h.owed, h.content) (same_completion_refl h.first.completion) in
+    let owner : owes_for cq v.device.owed ≡ true = rw h.owed (eq-eqb cq cq refl) in
+    let same : owes completion v.device.owed ≡ true = rw (h.owed, h.content) (same_completion_refl h.first.completion) in
     passes _ _ _ (eq-eqb actor ADAPTER h.adapter)
     (passes _ _ _ (and_from _ _ h.lives h.named)
     (passes _ _ _ owner
@@ -227,7 +227,7 @@ MayPublish_by_step v actor cq completion step =
     let living = and_parts _ _ object.0 in
     let hand = passed _ _ _ object.1 in
     let count = passed _ _ _ hand.1 in
-    let owed = first_owed v.owed cq completion hand.0 (passed _ _ _ count.1).0 in
+    let owed = first_owed v.device.owed cq completion hand.0 (passed _ _ _ count.1).0 in
     record {
       adapter = eqb-true actor ADAPTER by.0;
       lives = living.0;

@@ -16,22 +16,19 @@ use Rattle.verbs_types.specs.declared.state.QpState.{QpState}
 use Rattle.verbs_types.specs.declared.state.QpState.TheVariants.{Rts}
 use Rattle.verbs_types.specs.declared.state.QueuePair.{QueuePair}
 use Rattle.verbs_types.specs.declared.state.Unpolled.{Unpolled}
-use Rattle.verbs_rules.specs.Family.{put}
-use Rattle.verbs_rules.specs.Rows as rows
-use Rattle.verbs_rules.specs.Rows.{nop_completion, completion_owed, publish}
+use Rattle.verbs_rules.specs.Rows.{nop_completion, completion_owed, acts_of, publish}
 use Rattle.verbs_rules.specs.Rules.{names_living}
-use Rattle.verbs_rules.specs.Same.{same_queue}
-use Rattle.verbs_rules.specs.State.{Verbs, free_of}
+use Rattle.verbs_rules.specs.State.{Verbs}
 use Rattle.verbs_rules.specs.Step.{after}
 use Rattle.verbs_rules.specs.Answered.{Due}
 use Rattle.verbs_laws.proofs.Facts.{MayStep_fetch, MayStep_publish, runs_nop}
-use Rattle.verbs_rules.specs.Proper.{IsNop, items_on, retires_on, over_dues}
-use Rattle.verbs_rules.specs.Sane.{Bounds, Sane, Goes, QueueSane, CompletionsSane, IsHomed, IsHomedAct, numbers_in, waiting, completed_by, taken_of, free_on, into, owed_into}
-use Rattle.verbs_laws.proofs.Choices.{put_queue, put_completions, differs}
+use Rattle.verbs_rules.specs.Proper.{IsNop}
+use Rattle.verbs_rules.specs.Sane.{IsHomed}
+use Rattle.verbs_rules.specs.Within.{Bounds, InBounds, Within, Goes, CompletionsWithin, taken_of, into, owed_into}
+use Rattle.verbs_laws.proofs.Choices.{number_by, put_send, differs}
 use Rattle.verbs_laws.proofs.Counting.{into_mono, into_more, one_if}
-use Rattle.verbs_laws.proofs.Queued.{stays, takes, takes_wanted}
-use Rattle.verbs_laws.proofs.Waiting.{numbers-append, numbers_other, numbers_own}
-use Rattle.verbs_laws.proofs.Owing.{owing_free}
+use Rattle.verbs_laws.proofs.KeptAdapter.{OwesFor, acts_owe, home, fetched}
+use Rattle.verbs_laws.proofs.Kept.{goes}
 use Rattle.verbs_laws.proofs.GoesSettle.{named_one}
 
 -- Publish
@@ -39,89 +36,59 @@ use Rattle.verbs_laws.proofs.GoesSettle.{named_one}
 abbrev one_when : Bool → ℕ
 one_when b = if b then 1 else 0
 
--- the state after the first completion that is owed was published
-abbrev published_now : Verbs → ℕ → Unpolled → List Act → Verbs
-published_now v cq u others = publish v cq (Complete cq u ∷ others)
-
-module _ (n : ℕ) (bounds : Bounds) (v : Verbs) (dues : List (List Due)) (cq : ℕ) (u : Unpolled) (others : List Act) (s : Sane n bounds v dues) (owed : v.owed ≡ Complete cq u ∷ others) where
-  abbrev now : Verbs
-  now = published_now v cq u others
-
-  homed_owed : AllByRecursion (IsHomedAct v.pair_lives v.pairs) (Complete cq u ∷ others)
-  homed_owed = subst (AllByRecursion (IsHomedAct v.pair_lives v.pairs)) owed s.hand
-
-  home : IsHomed v.pair_lives v.pairs cq u
-  home = homed_owed.0
-
-  owed_more : (k : ℕ) → owed_into k v.owed ≡ one_when (cq == k) + owed_into k others
+module _ (n : ℕ) (bounds : Bounds) (v : Verbs) (dues : List (List Due)) (cq : ℕ) (u : Unpolled) (others : List Act) (s : InBounds n bounds v dues) (owed : v.device.owed ≡ Complete cq u ∷ others) where
+  owed_more : (k : ℕ) → owed_into k v.device.owed ≡ one_when (cq == k) + owed_into k others
   owed_more k = ap (owed_into k) owed
-
-  -- it was the first of those that the hand holds, and is the last of those that are published
-  moves_at : (i k : ℕ) → k ≡ (v.pairs i).send_cq → numbers_in i (now.completions k).unpolled ++ numbers_in i (map completed_by others) ≡ numbers_in i (v.completions k).unpolled ++ numbers_in i (u ∷ map completed_by others)
-  moves_at i =
-      put_completions (λ k c. k ≡ (v.pairs i).send_cq → numbers_in i c.unpolled ++ numbers_in i (map completed_by others) ≡ numbers_in i (v.completions k).unpolled ++ numbers_in i (u ∷ map completed_by others)) v.completions cq (record (v.completions cq) { produced = (v.completions cq).produced + 1; unpolled = (v.completions cq).unpolled ++ u ∷ [] })
-      (λ e.
-      ap (λ (ns : List ℕ). ns ++ numbers_in i (map completed_by others)) (numbers-append i (v.completions cq).unpolled (u ∷ []))
-      ∙ append_assoc (numbers_in i (v.completions cq).unpolled) (numbers_in i (u ∷ [])) (numbers_in i (map completed_by others))
-      ∙ ap (λ (ns : List ℕ). numbers_in i (v.completions cq).unpolled ++ ns) (sym (numbers-append i (u ∷ []) (map completed_by others))))
-      (λ k apart e. ap (λ (ns : List ℕ). numbers_in i (v.completions k).unpolled ++ ns) (sym (numbers_other v.pair_lives v.pairs cq i u (map completed_by others) home (λ same. apart (e ∙ ap (λ j. (v.pairs j).send_cq) same ∙ home.home)))))
-
-  waits_same : (i : ℕ) → waiting now i ≡ waiting v i
-  waits_same i = moves_at i (v.pairs i).send_cq refl ∙ ap (λ (acts : List Act). numbers_in i (v.completions (v.pairs i).send_cq).unpolled ++ numbers_in i (map completed_by acts)) (sym owed)
-
-  homed_push : (us : List Unpolled) → AllByRecursion (IsHomed v.pair_lives v.pairs cq) us → AllByRecursion (IsHomed v.pair_lives v.pairs cq) (us ++ u ∷ [])
-  homed_push [] h = (home, tt)
-  homed_push (x ∷ us) h = (h.0, homed_push us h.1)
 
   one_more : one_when (cq == cq) ≡ 1
   one_more = ap one_when (eq-eqb cq cq refl)
 
-  completions_after : (k : ℕ) → CompletionsSane v.pair_lives v.pairs (v.completions_live k) k (now.completions k) (owed_into k others) (into v.pairs (taken_of v) k FIRST_QP n) (into v.pairs bounds.posts k FIRST_QP n) (bounds.first k)
+  home_is : IsHomed v.device.pair_lives v.device.pairs cq u
+  home_is = home n v cq u others s.sane owed
+
+  home_lives : v.device.completions_live cq ≡ true
+  home_lives = ap v.device.completions_live (sym home_is.home) ∙ (s.sane.lives u.completion.qp home_is.living).home
+
+  completions_after : (k : ℕ) → CompletionsWithin (v.device.completions_live k) (v.limits.size k) (if k == cq then v.device.produced cq + 1 else v.device.produced k) (v.acked k) (owed_into k others) (into v.device.pairs (taken_of v) k FIRST_QP n) (into v.device.pairs bounds.posts k FIRST_QP n) (bounds.first k)
   completions_after =
-      put_completions (λ k c. CompletionsSane v.pair_lives v.pairs (v.completions_live k) k c (owed_into k others) (into v.pairs (taken_of v) k FIRST_QP n) (into v.pairs bounds.posts k FIRST_QP n) (bounds.first k)) v.completions cq (record (v.completions cq) { produced = (v.completions cq).produced + 1; unpolled = (v.completions cq).unpolled ++ u ∷ [] })
-      (let c = s.completions cq in
-      let long : length ((v.completions cq).unpolled ++ u ∷ []) ≡ length (v.completions cq).unpolled + 1 = length-append (v.completions cq).unpolled (u ∷ []) in
-      record { homed = homed_push (v.completions cq).unpolled c.homed; acked = omega (arith, c.acked, long); begun = c.begun; produced = omega (arith, c.produced, owed_more cq, one_more); fits = c.fits })
+      number_by (λ k b. CompletionsWithin (v.device.completions_live k) (v.limits.size k) (if b then v.device.produced cq + 1 else v.device.produced k) (v.acked k) (owed_into k others) (into v.device.pairs (taken_of v) k FIRST_QP n) (into v.device.pairs bounds.posts k FIRST_QP n) (bounds.first k)) cq
+      (let c = s.within.completions cq in record { begun = c.begun; produced = omega (arith, c.produced, owed_more cq, one_more); fits = c.fits })
       (λ k apart.
-      let c = s.completions k in
+      let c = s.within.completions k in
       let none : one_when (cq == k) ≡ 0 = ap one_when (differs cq k (λ e. apart (sym e))) in
-      record { homed = c.homed; acked = c.acked; begun = c.begun; produced = omega (arith, c.produced, owed_more k, none); fits = c.fits })
+      record { begun = c.begun; produced = omega (arith, c.produced, owed_more k, none); fits = c.fits })
 
   total_taken : (i : ℕ) → taken_of v i ≤ bounds.posts i
-  total_taken i = omega (arith, (s.queues i).taken, (s.queues i).posts)
+  total_taken i = omega (arith, (s.sane.queues i).taken, (s.within.queues i).posts)
 
   -- what was published and what is owed fits, since all that can be taken fits
-  pub publish_room : (v.completions cq).produced < bounds.first cq + (v.completions cq).size
+  pub publish_room : v.device.produced cq < bounds.first cq + v.limits.size cq
   publish_room =
-      let c = s.completions cq in
-      let live : v.completions_live cq ≡ true = ap v.completions_live (sym home.home) ∙ (s.lives u.completion.qp home.living).home in
-      omega (arith, c.produced, owed_more cq, one_more, into_mono v.pairs (taken_of v) bounds.posts cq FIRST_QP n total_taken, c.fits live)
+      let c = s.within.completions cq in
+      omega (arith, c.produced, owed_more cq, one_more, into_mono v.device.pairs (taken_of v) bounds.posts cq FIRST_QP n total_taken, c.fits home_lives)
+
+  within_after : (acts : List Act) → acts ≡ Complete cq u ∷ others → Within n bounds (publish v cq acts) dues
+  within_after acts is = subst (λ (acts : List Act). Within n bounds (publish v cq acts) dues) (sym is) (record { queues = s.within.queues; completions = completions_after; owing = s.within.owing })
 
   -- while fewer are unacknowledged than fit
-  pub publish_shown : (x : Completion) → x ≡ u.completion → (v.completions cq).produced - (v.completions cq).acked < (v.completions cq).size → Goes n bounds v 0 (Publish cq x) dues
-  publish_shown x is room = record {
-    legal = MayStep_publish {v = v} {cq = cq} (record {
-      adapter = refl;
-      lives = ap v.completions_live (sym home.home) ∙ (s.lives u.completion.qp home.living).home;
-      named = ap (names_living v) is ∙ named_one v cq u home;
-      first = u;
-      others = others;
-      owed = owed;
-      room = room;
-      content = is;
-    });
-    sane = subst (λ (acts : List Act). Sane n bounds (publish v cq acts) dues) (sym owed) (record {
-      lives = s.lives;
-      queues = λ i. stays (v.queues (Send i)) (waiting v i) (waiting now i) _ _ _ _ (bounds.posts i) (waits_same i) (omega arith) refl (s.queues i);
-      completions = completions_after;
-      hand = homed_owed.1;
-      owing = s.owing;
-    });
-  }
+  pub publish_shown : (x : Completion) → x ≡ u.completion → v.device.produced cq - v.acked cq < v.limits.size cq → Goes n bounds v 0 (Publish cq x) dues
+  publish_shown x is room =
+      goes n v 0 (Publish cq x) bounds dues s.sane
+      (MayStep_publish {v = v} {cq = cq} (record {
+        adapter = refl;
+        lives = home_lives;
+        named = ap (names_living v) is ∙ named_one v cq u home_is;
+        first = u;
+        others = others;
+        owed = owed;
+        room = room;
+        content = is;
+      }))
+      (within_after v.device.owed owed)
 
   -- always
   pub publish_goes : (x : Completion) → x ≡ u.completion → Goes n bounds v 0 (Publish cq x) dues
-  publish_goes x is = publish_shown x is (omega (arith, publish_room, (s.completions cq).begun, (s.completions cq).acked))
+  publish_goes x is = publish_shown x is (omega (arith, publish_room, (s.within.completions cq).begun, (s.sane.completions cq).acked))
 
 -- Fetch
 
@@ -141,104 +108,63 @@ nop_at [] k r h e = absurd (cc e)
 nop_at (i ∷ items) zero r h e = let same : i ≡ TheRequest r = cc e in (subst IsNop same h.0).0
 nop_at (i ∷ items) (suc k) r h e = nop_at items k r h.1 e
 
-module _ (n : ℕ) (bounds : Bounds) (v : Verbs) (dues : List (List Due)) (qp : ℕ) (r : Request) (s : Sane n bounds v dues) (lives : v.pair_lives qp ≡ true) (sends : (v.pairs qp).state ≡ Rts) (idle : v.owed ≡ []) (there : slice_get (v.queues (Send qp)).posted (taken_of v qp) ≡ Some (TheRequest r)) (more : taken_of v qp < length (v.queues (Send qp)).posted) where
+module _ (n : ℕ) (bounds : Bounds) (v : Verbs) (dues : List (List Due)) (qp : ℕ) (r : Request) (s : InBounds n bounds v dues) (lives : v.device.pair_lives qp ≡ true) (sends : (v.device.pairs qp).state ≡ Rts) (idle : v.device.owed ≡ []) (there : slice_get (v.posted (Send qp)) (taken_of v qp) ≡ Some (TheRequest r)) (more : taken_of v qp < length (v.posted (Send qp))) where
   abbrev pub number : ℕ
   number = taken_of v qp + 1
 
-  item_there : slice_get (v.queues (Send qp)).posted (number - 1) ≡ Some (TheRequest r)
-  item_there = ap (slice_get (v.queues (Send qp)).posted) (let e : taken_of v qp + 1 - 1 ≡ taken_of v qp = omega arith in e) ∙ there
+  item_there : slice_get (v.posted (Send qp)) (number - 1) ≡ Some (TheRequest r)
+  item_there = ap (slice_get (v.posted (Send qp))) (let e : taken_of v qp + 1 - 1 ≡ taken_of v qp = omega arith in e) ∙ there
 
-  -- the queues after the fetch, where these acts are owed
-  abbrev pub fetched : List Act → Verbs
-  fetched acts = record v { queues = put same_queue v.queues (Send qp) (rows.take (v.queues (Send qp)) number); owed = acts }
-
-  pub is_fetched : after v (Fetch (Send qp) number) ≡ fetched (owed_by (v.pairs qp) qp number r)
+  pub is_fetched : after v (Fetch (Send qp) number) ≡ fetched n v qp s.sane lives idle more (owed_by (v.device.pairs qp) qp number r)
   is_fetched =
-      ap (λ (o : Option Item). fetched (rows.acts_of (v.pairs qp) qp number o)) item_there
-      ∙ ap fetched (owes_is (v.pairs qp) qp number r sends)
+      ap (λ (o : Option Item). fetched n v qp s.sane lives idle more (acts_of (v.device.pairs qp) qp number o)) item_there
+      ∙ ap (fetched n v qp s.sane lives idle more) (owes_is (v.device.pairs qp) qp number r sends)
 
-  idle_waits : (i : ℕ) → waiting v i ≡ numbers_in i (v.completions (v.pairs i).send_cq).unpolled ++ []
-  idle_waits i = ap (λ (acts : List Act). numbers_in i (v.completions (v.pairs i).send_cq).unpolled ++ numbers_in i (map completed_by acts)) idle
+  abbrev now : Verbs
+  now = after v (Fetch (Send qp) number)
 
-  idle_owes : (k : ℕ) → owed_into k v.owed ≡ 0
+  taken_up : (i : ℕ) → taken_of v i ≤ taken_of now i
+  taken_up = put_send (λ i taken. taken_of v i ≤ taken) v.device.taken qp number (omega arith) (λ i apart. omega arith)
+
+  taken_one : taken_of v qp + 1 ≤ taken_of now qp
+  taken_one = put_send (λ i taken. i ≡ qp → taken_of v qp + 1 ≤ taken) v.device.taken qp number (λ e. omega arith) (λ i apart e. absurd (apart e)) qp refl
+
+  one_taken : (k : ℕ) → into v.device.pairs (taken_of v) k FIRST_QP n + one_if v.device.pairs k qp ≤ into v.device.pairs (taken_of now) k FIRST_QP n
+  one_taken k =
+      let p = s.sane.lives qp lives in
+      let back : FIRST_QP + (qp - FIRST_QP) ≡ qp = omega (arith, p.least) in
+      let grows : taken_of v (FIRST_QP + (qp - FIRST_QP)) + 1 ≤ taken_of now (FIRST_QP + (qp - FIRST_QP)) = subst (λ i. taken_of v i + 1 ≤ taken_of now i) (sym back) taken_one in
+      subst (λ i. into v.device.pairs (taken_of v) k FIRST_QP n + one_if v.device.pairs k i ≤ into v.device.pairs (taken_of now) k FIRST_QP n) back (into_more v.device.pairs (taken_of v) (taken_of now) k FIRST_QP n (qp - FIRST_QP) taken_up p.most grows)
+
+  idle_owes : (k : ℕ) → owed_into k v.device.owed ≡ 0
   idle_owes k = ap (owed_into k) idle
 
-  taken_up : (i : ℕ) → taken_of v i ≤ taken_of (fetched []) i
-  taken_up = put_queue (λ i u. taken_of v i ≤ u.taken) v.queues qp (rows.take (v.queues (Send qp)) number) (omega arith) (λ i apart. omega arith)
+  owed_few : (acts : List Act) → OwesFor (v.device.pairs qp) qp number acts → (k : ℕ) → owed_into k acts ≤ one_if v.device.pairs k qp
+  owed_few [] owes k = omega arith
+  owed_few (Complete cq u ∷ acts) owes k =
+      let one : one_when (cq == k) ≡ one_if v.device.pairs k qp = ap (λ c. one_when (c == k)) owes.0 in
+      let none : owed_into k acts ≡ 0 = ap (owed_into k) owes.4 in
+      omega (arith, one, none)
 
-  taken_one : taken_of v qp + 1 ≤ taken_of (fetched []) qp
-  taken_one = put_queue (λ i u. i ≡ qp → taken_of v qp + 1 ≤ u.taken) v.queues qp (rows.take (v.queues (Send qp)) number) (λ e. omega arith) (λ i apart e. absurd (apart e)) qp refl
-
-  free_same : (i : ℕ) → free_on v i ≤ free_on (fetched []) i
-  free_same = put_queue (λ i u. free_on v i ≤ free_of u) v.queues qp (rows.take (v.queues (Send qp)) number) (omega arith) (λ i apart. omega arith)
-
-  one_taken : (k : ℕ) → into v.pairs (taken_of v) k FIRST_QP n + one_if v.pairs k qp ≤ into v.pairs (taken_of (fetched [])) k FIRST_QP n
-  one_taken k =
-      let p = s.lives qp lives in
-      let back : FIRST_QP + (qp - FIRST_QP) ≡ qp = omega (arith, p.least) in
-      let grows : taken_of v (FIRST_QP + (qp - FIRST_QP)) + 1 ≤ taken_of (fetched []) (FIRST_QP + (qp - FIRST_QP)) = subst (λ i. taken_of v i + 1 ≤ taken_of (fetched []) i) (sym back) taken_one in
-      subst (λ i. into v.pairs (taken_of v) k FIRST_QP n + one_if v.pairs k i ≤ into v.pairs (taken_of (fetched [])) k FIRST_QP n) back (into_more v.pairs (taken_of v) (taken_of (fetched [])) k FIRST_QP n (qp - FIRST_QP) taken_up p.most grows)
-
-  nothing_owed : Sane n bounds (fetched []) dues
-  nothing_owed = record {
-    lives = s.lives;
-    queues = put_queue (λ i u. QueueSane u (waiting (fetched []) i) (over_dues (items_on i) dues) (over_dues (retires_on i) dues) (bounds.posts i)) v.queues qp (rows.take (v.queues (Send qp)) number)
-        (takes (v.queues (Send qp)) (waiting v qp) (waiting (fetched []) qp) _ _ (bounds.posts qp) (sym (idle_waits qp)) more (s.queues qp))
-        (λ i apart. stays (v.queues (Send i)) (waiting v i) (waiting (fetched []) i) _ _ _ _ (bounds.posts i) (sym (idle_waits i)) (omega arith) refl (s.queues i));
-    completions = λ k. let c = s.completions k in record { homed = c.homed; acked = c.acked; begun = c.begun; produced = omega (arith, c.produced, idle_owes k, one_taken k); fits = c.fits };
-    hand = tt;
-    owing = owing_free v.pair_lives v.completions_live (free_on v) (free_on (fetched [])) dues free_same s.owing;
+  fetched_within : Within n bounds now dues
+  fetched_within = record {
+    queues = s.within.queues;
+    completions = λ k. let c = s.within.completions k in record { begun = c.begun; produced = omega (arith, c.produced, idle_owes k, owed_few now.device.owed (acts_owe (v.device.pairs qp) qp number _) k, one_taken k); fits = c.fits };
+    owing = s.within.owing;
   }
-
-  abbrev wanted : Unpolled
-  wanted = record { completion = nop_completion qp r.id 0; number = number }
-
-  abbrev act : Act
-  act = Complete (v.pairs qp).send_cq wanted
-
-  wanted_waits : waiting (fetched (act ∷ [])) qp ≡ waiting v qp ++ number ∷ []
-  wanted_waits =
-      ap (λ (ns : List ℕ). numbers_in qp (v.completions (v.pairs qp).send_cq).unpolled ++ ns) (numbers_own qp wanted [] refl)
-      ∙ ap (λ (ns : List ℕ). ns ++ number ∷ []) (sym (append-nil (numbers_in qp (v.completions (v.pairs qp).send_cq).unpolled)) ∙ sym (idle_waits qp))
-
-  homed_here : IsHomed v.pair_lives v.pairs (v.pairs qp).send_cq wanted
-  homed_here = record { living = lives; queue = refl; home = refl }
-
-  other_waits : (i : ℕ) → i ≢ qp → waiting (fetched (act ∷ [])) i ≡ waiting v i
-  other_waits i apart =
-      ap (λ (ns : List ℕ). numbers_in i (v.completions (v.pairs i).send_cq).unpolled ++ ns) (numbers_other v.pair_lives v.pairs (v.pairs qp).send_cq i wanted [] homed_here apart)
-      ∙ sym (idle_waits i)
-
-  one_owed : Sane n bounds (fetched (act ∷ [])) dues
-  one_owed = record {
-    lives = s.lives;
-    queues = put_queue (λ i u. QueueSane u (waiting (fetched (act ∷ [])) i) (over_dues (items_on i) dues) (over_dues (retires_on i) dues) (bounds.posts i)) v.queues qp (rows.take (v.queues (Send qp)) number)
-        (takes_wanted (v.queues (Send qp)) (waiting v qp) (waiting (fetched (act ∷ [])) qp) _ _ (bounds.posts qp) wanted_waits more (s.queues qp))
-        (λ i apart. stays (v.queues (Send i)) (waiting v i) (waiting (fetched (act ∷ [])) i) _ _ _ _ (bounds.posts i) (other_waits i apart) (omega arith) refl (s.queues i));
-    completions = λ k.
-        let c = s.completions k in
-        let one : owed_into k (act ∷ []) ≡ one_if v.pairs k qp + 0 = refl in
-        record { homed = c.homed; acked = c.acked; begun = c.begun; produced = omega (arith, c.produced, idle_owes k, one, one_taken k); fits = c.fits };
-    hand = (homed_here, tt);
-    owing = owing_free v.pair_lives v.completions_live (free_on v) (free_on (fetched [])) dues free_same s.owing;
-  }
-
-  either_owed : (b : Bool) → Sane n bounds (fetched (if b then act ∷ [] else [])) dues
-  either_owed true = one_owed
-  either_owed false = nothing_owed
 
   pub fetch_goes : Goes n bounds v 0 (Fetch (Send qp) number) dues
-  fetch_goes = record {
-    legal = MayStep_fetch {v = v} {queue = Send qp} (record {
-      adapter = refl;
-      lives = lives;
-      idle = idle;
-      next = refl;
-      posted = omega (arith, more);
-      content = runs_nop v qp number r sends item_there (nop_at (v.queues (Send qp)).posted (taken_of v qp) r (s.queues qp).nops there);
-    });
-    sane = subst (λ (w : Verbs). Sane n bounds w dues) (sym is_fetched) (either_owed r.wanted);
-  }
+  fetch_goes =
+      goes n v 0 (Fetch (Send qp) number) bounds dues s.sane
+      (MayStep_fetch {v = v} {queue = Send qp} (record {
+        adapter = refl;
+        lives = lives;
+        idle = idle;
+        next = refl;
+        posted = omega (arith, more);
+        content = runs_nop v qp number r sends item_there (nop_at (v.posted (Send qp)) (taken_of v qp) r (s.within.queues qp).nops there);
+      }))
+      fetched_within
 
 request_at : (items : List Item) (k : ℕ) → AllByRecursion IsNop items → k < length items → (r : Request) × (slice_get items k ≡ Some (TheRequest r))
 request_at [] k h low = absurd (omega (arith, low))
@@ -247,9 +173,9 @@ request_at (TheReceive r ∷ items) zero h low = absurd h.0
 request_at (i ∷ items) (suc k) h low = request_at items k h.1 (omega (arith, low))
 
 -- told by the request's number, which was seen as posted
-pub fetch_shown : (n : ℕ) (bounds : Bounds) (v : Verbs) (dues : List (List Due)) (qp number : ℕ) → Sane n bounds v dues → v.pair_lives qp ≡ true → (v.pairs qp).state ≡ Rts → v.owed ≡ [] → number ≡ taken_of v qp + 1 → number ≤ length (v.queues (Send qp)).posted
+pub fetch_shown : (n : ℕ) (bounds : Bounds) (v : Verbs) (dues : List (List Due)) (qp number : ℕ) → InBounds n bounds v dues → v.device.pair_lives qp ≡ true → (v.device.pairs qp).state ≡ Rts → v.device.owed ≡ [] → number ≡ taken_of v qp + 1 → number ≤ length (v.posted (Send qp))
     → Goes n bounds v 0 (Fetch (Send qp) number) dues
 fetch_shown n bounds v dues qp number s lives sends idle next posted =
-    let low : taken_of v qp < length (v.queues (Send qp)).posted = omega (arith, next, posted) in
-    let r = request_at (v.queues (Send qp)).posted (taken_of v qp) (s.queues qp).nops low in
+    let low : taken_of v qp < length (v.posted (Send qp)) = omega (arith, next, posted) in
+    let r = request_at (v.posted (Send qp)) (taken_of v qp) (s.within.queues qp).nops low in
     subst (λ k. Goes n bounds v 0 (Fetch (Send qp) k) dues) (sym next) (fetch_goes n bounds v dues qp r.0 s lives sends idle r.1 low)

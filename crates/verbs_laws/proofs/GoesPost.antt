@@ -1,5 +1,5 @@
 -- A post of requests that a thread owes next, and that the queue is full, are legal, and all stays in bounds.
-use Rattle.std.proofs.Common.{◌≡◌, ◌≢◌, ℕ, zero, suc, ◌+◌, ◌-◌, ◌<◌, ◌≤◌, ◌==◌, ◌⊎◌, inl, inr, Bool, true, false, if◌then◌else◌, ◌||◌, List, [], ◌∷◌, ◌++◌, length, take, refl, sym, ◌∙◌, ap, subst, arith, slice_set, min}
+use Rattle.std.proofs.Common.{◌≡◌, ◌≢◌, ℕ, zero, suc, ◌+◌, ◌-◌, ◌<◌, ◌≤◌, ◌==◌, ◌⊎◌, inl, inr, Bool, true, false, if◌then◌else◌, ◌||◌, List, [], ◌∷◌, ◌++◌, length, length-append, take, refl, sym, ◌∙◌, ap, subst, arith, slice_set, min}
 use Rattle.std.specs.List.{list_any, list_all, sum_by, AllByRecursion}
 use Rattle.std.proofs.lemmas.Bool.{le-leb, eqb-false}
 use Rattle.std.proofs.lemmas.List.{length-take}
@@ -8,20 +8,22 @@ use Rattle.verbs_types.specs.declared.request.Item.TheVariants.{Request as TheRe
 use Rattle.verbs_types.specs.declared.completion.Queue.{Queue}
 use Rattle.verbs_types.specs.declared.completion.Queue.TheVariants.{Send}
 use Rattle.verbs_types.specs.declared.entry.What.TheVariants.{Post, PostFull}
-use Rattle.verbs_rules.specs.Rows as rows
 use Rattle.verbs_rules.specs.Rows.{item_fits, body_fits}
-use Rattle.verbs_rules.specs.State.{WorkQueue, Verbs, free_of}
+use Rattle.verbs_rules.specs.State.{Verbs}
+use Rattle.verbs_rules.specs.OfOne.{WorkQueue, queue_in, free_of}
 use Rattle.verbs_rules.specs.Step.{after}
 use Rattle.verbs_rules.specs.Answered.{Due, Posting, Accepting}
 use Rattle.verbs_rules.specs.Proper.{Owes, IsNop, IsProper, AreProper, items_on, posts_on, retires_on, over_dues}
-use Rattle.verbs_rules.specs.Sane.{Bounds, Sane, Goes, QueueSane, waiting, taken_of, free_on}
+use Rattle.verbs_rules.specs.Sane.{waiting}
+use Rattle.verbs_rules.specs.Within.{Bounds, InBounds, Goes, QueueWithin, free_on}
 use Rattle.verbs_laws.proofs.Facts.{MayStep_post, MayStep_full}
 use Rattle.verbs_laws.proofs.Sameness.{same_queue_refl}
-use Rattle.verbs_laws.proofs.Choices.{put_queue, differs}
+use Rattle.verbs_laws.proofs.Choices.{number_by, put_send}
 use Rattle.verbs_laws.proofs.Counting.{over_after}
-use Rattle.verbs_laws.proofs.Queued.{stays, posts, fits_by_room, room_by_free, free_by_full, full_by_free}
+use Rattle.verbs_laws.proofs.Queued.{fits_by_room, room_by_free, free_by_full, full_by_free}
+use Rattle.verbs_laws.proofs.Kept.{goes}
 use Rattle.verbs_laws.proofs.Owing.{owing_after, proper_rest, proper_at}
-use Rattle.verbs_laws.proofs.Steady.{host_of, completions_stay, rest_posts, owes_less}
+use Rattle.verbs_laws.proofs.Steady.{host_of, rest_posts, no_more, owes_less}
 
 nop_fits : (qp segments : ℕ) (i : Item) → IsNop i → item_fits (Send qp) segments i ≡ true
 nop_fits qp segments (TheRequest r) nop = ap (body_fits segments) nop.1 ∙ le-leb 0 segments (omega arith)
@@ -46,63 +48,69 @@ own qp m = ap (λ b. if b then m else 0) (same_queue_refl (Send qp))
 first_posts : (qp : ℕ) (due : Due) (rest : List Due) → posts_on qp due ≡ true → list_any (posts_on qp) (due ∷ rest) ≡ true
 first_posts qp due rest e = ap (λ b. b || list_any (posts_on qp) rest) e
 
-module _ (n : ℕ) (bounds : Bounds) (v : Verbs) (dues : List (List Due)) (t qp : ℕ) (items : List Item) (rest : List Due) (s : Sane n bounds v dues) where
-  abbrev u : WorkQueue
-  u = v.queues (Send qp)
+all-append : {X : Type 0} (P : X → Type 0) (xs ys : List X) → AllByRecursion P xs → AllByRecursion P ys → AllByRecursion P (xs ++ ys)
+all-append P [] ys h k = k
+all-append P (x ∷ xs) ys h k = (h.0, all-append P xs ys h.1 k)
 
-  abbrev q : QueueSane u (waiting v qp) (over_dues (items_on qp) dues) (over_dues (retires_on qp) dues) (bounds.posts qp)
-  q = s.queues qp
+-- the items were posted, and are no more to be
+posted_within : (posted items : List Item) (ends : List ℕ) (i i' r r' total : ℕ) → length items + i' ≤ i → r' ≡ r → AllByRecursion IsNop items → QueueWithin posted ends i r total → QueueWithin (posted ++ items) ends i' r' total
+posted_within posted items ends i i' r r' total le e nops q =
+    let long : length (posted ++ items) ≡ length posted + length items = length-append posted items in
+    record { nops = all-append IsNop posted items q.nops nops; posts = omega (arith, long, q.posts, le); retires = e ∙ q.retires }
+
+module _ (n : ℕ) (bounds : Bounds) (v : Verbs) (dues : List (List Due)) (t qp : ℕ) (items : List Item) (rest : List Due) (s : InBounds n bounds v dues) where
+  abbrev u : WorkQueue
+  u = queue_in v (Send qp)
 
   -- the queue has room for the items
   abbrev pub HasRoom : Type 0
-  HasRoom = length (v.queues (Send qp)).posted + length items - (v.queues (Send qp)).retired ≤ (v.queues (Send qp)).room
+  HasRoom = length (v.posted (Send qp)) + length items - (v.settled (Send qp)).retired ≤ v.limits.room (Send qp)
 
-  posted_free : (due : Due) → PostsNext v.pair_lives qp items due → (i : ℕ) → (free_on v i ≤ free_on (after v (Post (Send qp) items)) i) ⊎ (list_any (posts_on i) (due ∷ rest) ≡ true)
-  posted_free due h = put_queue (λ i w. (free_on v i ≤ free_of w) ⊎ (list_any (posts_on i) (due ∷ rest) ≡ true)) v.queues qp (rows.post u items) (inr (first_posts qp due rest h.posts_are)) (λ i apart. inl (omega arith))
+  posted_free : (due : Due) → PostsNext v.device.pair_lives qp items due → (i : ℕ) → (free_on v i ≤ free_on (after v (Post (Send qp) items)) i) ⊎ (list_any (posts_on i) (due ∷ rest) ≡ true)
+  posted_free due h =
+      number_by (λ i b. (free_on v i ≤ free_of (record (queue_in v (Send i)) { posted = if b then v.posted (Send qp) ++ items else v.posted (Send i) })) ⊎ (list_any (posts_on i) (due ∷ rest) ≡ true)) qp
+      (inr (first_posts qp due rest h.posts_are)) (λ i apart. inl (omega arith))
 
-  post_goes : (due : Due) → Owes dues t due rest → PostsNext v.pair_lives qp items due → HasRoom → Goes n bounds v (suc t) (Post (Send qp) items) (slice_set dues t rest)
+  post_goes : (due : Due) → Owes dues t due rest → PostsNext v.device.pair_lives qp items due → HasRoom → Goes n bounds v (suc t) (Post (Send qp) items) (slice_set dues t rest)
   post_goes due o h room =
-      let proper = proper_at v.pair_lives v.completions_live (free_on v) dues t due rest s.owing o in
+      let proper = proper_at v.device.pair_lives v.device.completions_live (free_on v) dues t due rest s.within.owing o in
       let sums : (i : ℕ) → over_dues (items_on i) (slice_set dues t rest) + items_on i due ≡ over_dues (items_on i) dues + 0 = λ i. over_after (items_on i) dues t due rest [] o in
       let retires : (i : ℕ) → over_dues (retires_on i) (slice_set dues t rest) + retires_on i due ≡ over_dues (retires_on i) dues + 0 = λ i. over_after (retires_on i) dues t due rest [] o in
-      let fits : length items ≤ free_of u = fits_by_room u (waiting v qp) _ _ _ (length items) q room in record {
-        legal = MayStep_post {v = v} {queue = Send qp} (record { host = host_of n bounds v dues t due rest s o; lives = h.living; room = room; some = h.some; fit = items_fit qp u.segments items h.nops });
-        sane = record {
-          lives = s.lives;
-          queues = put_queue (λ i w. QueueSane w (waiting v i) (over_dues (items_on i) (slice_set dues t rest)) (over_dues (retires_on i) (slice_set dues t rest)) (bounds.posts i)) v.queues qp (rows.post u items)
-              (posts u (waiting v qp) _ _ _ _ (bounds.posts qp) items (omega (arith, sums qp, h.items_are qp, own qp (length items))) (omega (arith, retires qp, h.retires_are qp)) fits h.nops q)
-              (λ i apart. stays (v.queues (Send i)) (waiting v i) (waiting v i) _ _ _ _ (bounds.posts i) refl (omega (arith, sums i)) (omega (arith, retires i, h.retires_are i)) (s.queues i));
-          completions = completions_stay n bounds v dues (taken_of (after v (Post (Send qp) items))) s (put_queue (λ i w. taken_of v i ≤ w.taken) v.queues qp (rows.post u items) (omega arith) (λ i apart. omega arith));
-          hand = s.hand;
-          owing = owing_after v.pair_lives v.completions_live (free_on v) (free_on (after v (Post (Send qp) items))) dues t due rest rest s.owing o (record {
-            proper = proper_rest v.pair_lives v.completions_live _ rest proper.1;
-            posts = λ i none. rest_posts (posts_on i due) (list_any (posts_on i) rest) none;
-            others = posted_free due h;
-          });
-        };
-      }
+      goes n v (suc t) (Post (Send qp) items) bounds (slice_set dues t rest) s.sane
+      (MayStep_post {v = v} {queue = Send qp} (record { host = host_of n bounds v dues t due rest s o; lives = h.living; room = room; some = h.some; fit = items_fit qp u.segments items h.nops }))
+      (record {
+        queues = put_send (λ i posted. QueueWithin posted (v.settled (Send i)).ends (over_dues (items_on i) (slice_set dues t rest)) (over_dues (retires_on i) (slice_set dues t rest)) (bounds.posts i)) v.posted qp (v.posted (Send qp) ++ items)
+            (posted_within (v.posted (Send qp)) items (v.settled (Send qp)).ends _ _ _ _ (bounds.posts qp) (omega (arith, sums qp, h.items_are qp, own qp (length items))) (omega (arith, retires qp, h.retires_are qp)) h.nops (s.within.queues qp))
+            (λ i apart. no_more (v.posted (Send i)) (v.settled (Send i)).ends _ _ _ _ (bounds.posts i) (omega (arith, sums i)) (omega (arith, retires i, h.retires_are i)) (s.within.queues i));
+        completions = s.within.completions;
+        owing = owing_after v.device.pair_lives v.device.completions_live (free_on v) (free_on (after v (Post (Send qp) items))) dues t due rest rest s.within.owing o (record {
+          proper = proper_rest v.device.pair_lives v.device.completions_live _ rest proper.1;
+          posts = λ i none. rest_posts (posts_on i due) (list_any (posts_on i) rest) none;
+          others = posted_free due h;
+        });
+      })
 
   -- the post of a whole list, which fits by what was seen as retired
   pub posting_shown : Owes dues t (Posting (Send qp) items) rest → HasRoom → Goes n bounds v (suc t) (Post (Send qp) items) (slice_set dues t rest)
   posting_shown o room =
-      let p = (proper_at v.pair_lives v.completions_live (free_on v) dues t (Posting (Send qp) items) rest s.owing o).0 in
+      let p = (proper_at v.device.pair_lives v.device.completions_live (free_on v) dues t (Posting (Send qp) items) rest s.within.owing o).0 in
       post_goes (Posting (Send qp) items) o (record { items_are = λ i. refl; retires_are = λ i. refl; posts_are = same_queue_refl (Send qp); living = p.0; some = p.1; nops = p.2 }) room
 
   -- the same where it is no more than is free
   pub posting_goes : Owes dues t (Posting (Send qp) items) rest → length items ≤ free_on v qp → Goes n bounds v (suc t) (Post (Send qp) items) (slice_set dues t rest)
-  posting_goes o fits = posting_shown o (room_by_free u (waiting v qp) _ _ _ (length items) q fits)
+  posting_goes o fits = posting_shown o (room_by_free u (waiting v qp) (length items) (s.sane.queues qp) fits)
 
   -- the post of what was accepted before the queue was full
   pub accepting_shown : Owes dues t (Accepting (Send qp) items) rest → HasRoom → Goes n bounds v (suc t) (Post (Send qp) items) (slice_set dues t rest)
   accepting_shown o room =
-      let p = (proper_at v.pair_lives v.completions_live (free_on v) dues t (Accepting (Send qp) items) rest s.owing o).0 in
+      let p = (proper_at v.device.pair_lives v.device.completions_live (free_on v) dues t (Accepting (Send qp) items) rest s.within.owing o).0 in
       post_goes (Accepting (Send qp) items) o (record { items_are = λ i. refl; retires_are = λ i. refl; posts_are = same_queue_refl (Send qp); living = p.living; some = p.some; nops = p.nops }) room
 
   -- for which there is room
   pub accepting_goes : Owes dues t (Accepting (Send qp) items) rest → Goes n bounds v (suc t) (Post (Send qp) items) (slice_set dues t rest)
   accepting_goes o =
-      let p = (proper_at v.pair_lives v.completions_live (free_on v) dues t (Accepting (Send qp) items) rest s.owing o).0 in
-      accepting_shown o (room_by_free u (waiting v qp) _ _ _ (length items) q p.room)
+      let p = (proper_at v.device.pair_lives v.device.completions_live (free_on v) dues t (Accepting (Send qp) items) rest s.within.owing o).0 in
+      accepting_shown o (room_by_free u (waiting v qp) (length items) (s.sane.queues qp) p.room)
 
 -- That the queue is full
 
@@ -142,24 +150,24 @@ full_posts : (i qp pending : ℕ) (items : List Item) (rest : List Due) → (b :
 full_posts i qp pending items rest true none = rest_posts (i == qp) (list_any (posts_on i) rest) none
 full_posts i qp pending items rest false none = none
 
-module _ (n : ℕ) (bounds : Bounds) (v : Verbs) (dues : List (List Due)) (t qp : ℕ) (items : List Item) (rest : List Due) (s : Sane n bounds v dues) (o : Owes dues t (Posting (Send qp) items) rest) where
+module _ (n : ℕ) (bounds : Bounds) (v : Verbs) (dues : List (List Due)) (t qp : ℕ) (items : List Item) (rest : List Due) (s : InBounds n bounds v dues) (o : Owes dues t (Posting (Send qp) items) rest) where
   -- as many were accepted as are free
-  pub full_goes : Goes n bounds v (suc t) (PostFull (Send qp) (free_on v qp) (length (v.queues (Send qp)).posted + free_on v qp) (v.queues (Send qp)).retired) (slice_set dues t (accepts (Send qp) (free_on v qp) items ++ rest))
+  pub full_goes : Goes n bounds v (suc t) (PostFull (Send qp) (free_on v qp) (length (v.posted (Send qp)) + free_on v qp) (v.settled (Send qp)).retired) (slice_set dues t (accepts (Send qp) (free_on v qp) items ++ rest))
   full_goes =
       let due : Due = Posting (Send qp) items in
-      let p = proper_at v.pair_lives v.completions_live (free_on v) dues t due rest s.owing o in record {
-        legal = MayStep_full {v = v} {queue = Send qp} (record { host = host_of n bounds v dues t due rest s o; lives = p.0.0; posted = refl; retired = refl; full = full_by_free (v.queues (Send qp)) (waiting v qp) _ _ _ (s.queues qp) });
-        sane = owes_less n bounds v dues t due rest (accepts (Send qp) (free_on v qp) items) s o (λ i. full_items i qp (free_on v qp) items (free_on v qp == 0)) (λ i. full_retires i qp (free_on v qp) items (free_on v qp == 0)) (record {
-          proper = full_proper v.pair_lives v.completions_live (free_on v) qp items rest p.0.0 p.0.2 p.0.1 p.1 (free_on v qp == 0) refl;
-          posts = λ i none. full_posts i qp (free_on v qp) items rest (free_on v qp == 0) none;
-          others = λ i. inl (omega arith);
-        });
-      }
+      let p = proper_at v.device.pair_lives v.device.completions_live (free_on v) dues t due rest s.within.owing o in
+      goes n v (suc t) (PostFull (Send qp) (free_on v qp) (length (v.posted (Send qp)) + free_on v qp) (v.settled (Send qp)).retired) bounds (slice_set dues t (accepts (Send qp) (free_on v qp) items ++ rest)) s.sane
+      (MayStep_full {v = v} {queue = Send qp} (record { host = host_of n bounds v dues t due rest s o; lives = p.0.0; posted = refl; retired = refl; full = full_by_free (queue_in v (Send qp)) (waiting v qp) (s.sane.queues qp) }))
+      (owes_less n bounds v dues t due rest (accepts (Send qp) (free_on v qp) items) s.within o (λ i. full_items i qp (free_on v qp) items (free_on v qp == 0)) (λ i. full_retires i qp (free_on v qp) items (free_on v qp == 0)) (record {
+        proper = full_proper v.device.pair_lives v.device.completions_live (free_on v) qp items rest p.0.0 p.0.2 p.0.1 p.1 (free_on v qp == 0) refl;
+        posts = λ i none. full_posts i qp (free_on v qp) items rest (free_on v qp == 0) none;
+        others = λ i. inl (omega arith);
+      }))
 
   -- as many were accepted as fill the queue
-  pub full_shown : (pending head tail : ℕ) → head ≡ length (v.queues (Send qp)).posted + pending → tail ≡ (v.queues (Send qp)).retired → head - tail ≡ (v.queues (Send qp)).room
+  pub full_shown : (pending head tail : ℕ) → head ≡ length (v.posted (Send qp)) + pending → tail ≡ (v.settled (Send qp)).retired → head - tail ≡ v.limits.room (Send qp)
       → Goes n bounds v (suc t) (PostFull (Send qp) pending head tail) (slice_set dues t (accepts (Send qp) pending items ++ rest))
   full_shown pending head tail head_is tail_is full =
-      let free : pending ≡ free_on v qp = free_by_full (v.queues (Send qp)) (waiting v qp) _ _ _ pending (s.queues qp) (omega (arith, head_is, tail_is, full)) in
-      let there : head ≡ length (v.queues (Send qp)).posted + free_on v qp = omega (arith, head_is, free) in
+      let free : pending ≡ free_on v qp = free_by_full (queue_in v (Send qp)) (waiting v qp) pending (s.sane.queues qp) (omega (arith, head_is, tail_is, full)) in
+      let there : head ≡ length (v.posted (Send qp)) + free_on v qp = omega (arith, head_is, free) in
       rw (free, there, tail_is) full_goes

@@ -1,8 +1,8 @@
 -- A poll, a retirement and an acknowledgement that a thread owes next are legal, and all stays in bounds.
-use Rattle.std.proofs.Common.{◌≡◌, ◌≢◌, ℕ, suc, ◌+◌, ◌-◌, ◌<◌, ◌≤◌, inl, Bool, true, false, if◌then◌else◌, List, [], ◌∷◌, ◌++◌, length, map, take, drop, refl, sym, ◌∙◌, ap, subst, arith, slice_set, append_assoc}
+use Rattle.std.proofs.Common.{◌≡◌, ◌≢◌, ℕ, suc, ◌+◌, ◌-◌, ◌<◌, ◌≤◌, inl, Bool, true, false, if◌then◌else◌, List, [], ◌∷◌, ◌++◌, length, map, take, drop, refl, sym, ◌∙◌, ap, subst, arith, slice_set, append_assoc, length-append}
 use Rattle.std.specs.List.{list_any, list_all, sum_by, AllByRecursion}
-use Rattle.std.proofs.lemmas.List.{take-append-drop, length-drop}
 use Rattle.std.proofs.lemmas.List.Sums.{sum_by-cons, sum_by_push}
+use Rattle.verbs_types.specs.declared.request.Item.{Item}
 use Rattle.verbs_types.specs.declared.completion.Completion.{Completion}
 use Rattle.verbs_types.specs.declared.completion.Queue.TheVariants.{Send}
 use Rattle.verbs_types.specs.declared.declaration.TheConstants.{FIRST_QP}
@@ -10,23 +10,26 @@ use Rattle.verbs_types.specs.declared.entry.What.{What}
 use Rattle.verbs_types.specs.declared.entry.What.TheVariants.{Poll, Retire, Ack}
 use Rattle.verbs_types.specs.declared.state.QueuePair.{QueuePair}
 use Rattle.verbs_types.specs.declared.state.Unpolled.{Unpolled}
-use Rattle.verbs_rules.specs.Rows as rows
-use Rattle.verbs_rules.specs.Rows.{end_all}
+use Rattle.verbs_rules.specs.Rows.{rest_of}
 use Rattle.verbs_rules.specs.Rules.{names_living}
 use Rattle.verbs_rules.specs.Same.{same_queue}
-use Rattle.verbs_rules.specs.State.{WorkQueue, Verbs, free_of}
+use Rattle.verbs_rules.specs.State.{Settled, Verbs}
+use Rattle.verbs_rules.specs.OfOne.{queue_in, free_of}
 use Rattle.verbs_rules.specs.Step.{after}
 use Rattle.verbs_rules.specs.Answered.{Due, Polling, Draining, Retiring, Acking, settling}
 use Rattle.verbs_laws.proofs.Facts.{MayStep_poll, MayStep_retire, MayStep_ack}
 use Rattle.verbs_laws.proofs.Sameness.{same_queue_refl}
 use Rattle.verbs_rules.specs.Proper.{Owes, IsProper, items_on, posts_on, retires_on, over_dues}
-use Rattle.verbs_rules.specs.Sane.{Bounds, Sane, Goes, QueueSane, CompletionsSane, IsHomed, numbers_in, waiting, completed_by, taken_of, free_on, into, owed_into}
-use Rattle.verbs_laws.proofs.Choices.{put_queue, put_completions, differs}
+use Rattle.verbs_rules.specs.Sane.{IsHomed, numbers_in, waiting}
+use Rattle.verbs_rules.specs.Within.{Bounds, InBounds, Goes, QueueWithin, CompletionsWithin, taken_of, free_on, into, owed_into}
+use Rattle.verbs_laws.proofs.Choices.{put_send, put_one, differs}
 use Rattle.verbs_laws.proofs.Counting.{over_after, over_due}
-use Rattle.verbs_laws.proofs.Queued.{stays, polls, retires, retired_up}
-use Rattle.verbs_laws.proofs.Waiting.{completion_in, numbers-append, numbers_away, ended_at, left_behind, homed_take, homed_drop}
+use Rattle.verbs_laws.proofs.Queued.{retired_up}
+use Rattle.verbs_laws.proofs.KeptHost.{settled_now}
+use Rattle.verbs_laws.proofs.Kept.{goes}
+use Rattle.verbs_laws.proofs.Waiting.{completion_in, homed_take}
 use Rattle.verbs_laws.proofs.Owing.{owing_after, proper_rest, proper_at}
-use Rattle.verbs_laws.proofs.Steady.{host_of, completions_stay, rest_posts}
+use Rattle.verbs_laws.proofs.Steady.{host_of, rest_posts, no_more}
 
 -- What a poll leaves owed
 
@@ -81,10 +84,10 @@ module _ (lives cqs : ℕ → Bool) (pairs : ℕ → QueuePair) (cq : ℕ) where
   proper_settling [] rest live homed h = h
   proper_settling (u ∷ us) rest live homed h = subst (AllByRecursion (IsProper lives cqs)) (sym (append_assoc (retiring_each (u ∷ us)) (Acking cq ∷ []) rest)) (proper_each (u ∷ us) (Acking cq ∷ rest) homed (live, h))
 
-pub named_one : (v : Verbs) (cq : ℕ) (u : Unpolled) → IsHomed v.pair_lives v.pairs cq u → names_living v u.completion ≡ true
+pub named_one : (v : Verbs) (cq : ℕ) (u : Unpolled) → IsHomed v.device.pair_lives v.device.pairs cq u → names_living v u.completion ≡ true
 named_one v cq u h = rw (h.queue, h.living) refl
 
-pub named_each : (v : Verbs) (cq : ℕ) (us : List Unpolled) → AllByRecursion (IsHomed v.pair_lives v.pairs cq) us → list_all (names_living v) (map completion_in us) ≡ true
+pub named_each : (v : Verbs) (cq : ℕ) (us : List Unpolled) → AllByRecursion (IsHomed v.device.pair_lives v.device.pairs cq) us → list_all (names_living v) (map completion_in us) ≡ true
 named_each v cq [] h = refl
 named_each v cq (u ∷ us) h = rw (named_one v cq u h.0) (named_each v cq us h.1)
 
@@ -92,99 +95,72 @@ named_each v cq (u ∷ us) h = rw (named_one v cq u h.0) (named_each v cq us h.1
 pub record PollsNext (v : Verbs) (cq most : ℕ) (due : Due) : Type 0 where
   pub items_are : (i : ℕ) → items_on i due ≡ 0
   pub retires_are : (i : ℕ) → retires_on i due ≡ 0
-  pub live : v.completions_live cq ≡ true
+  pub live : v.device.completions_live cq ≡ true
   pub least : 1 ≤ most
   pub greatest : most ≤ 16
 
-module _ (n : ℕ) (bounds : Bounds) (v : Verbs) (dues : List (List Due)) (cq most : ℕ) (s : Sane n bounds v dues) where
-  abbrev there : List Unpolled
-  there = (v.completions cq).unpolled
-
+module _ (n : ℕ) (bounds : Bounds) (v : Verbs) (dues : List (List Due)) (cq most : ℕ) (s : InBounds n bounds v dues) where
   abbrev polled : List Unpolled
-  polled = take most there
+  polled = take most (v.unpolled cq)
 
   abbrev what : What
   what = Poll cq most (map completion_in polled)
 
-  queue_now : (i : ℕ) → (after v what).queues (Send i) ≡ record (v.queues (Send i)) { ends = (v.queues (Send i)).ends ++ numbers_in i polled }
-  queue_now i =
-      ap (λ (us : List Unpolled). end_all v.queues (map completion_in polled) us (Send i)) (sym (take-append-drop most there))
-      ∙ ended_at v.queues polled (drop most there) i
-
-  taken_now : (i : ℕ) → taken_of v i ≤ taken_of (after v what) i
-  taken_now i = let same : (after v what).queues (Send i) ≡ record (v.queues (Send i)) { ends = (v.queues (Send i)).ends ++ numbers_in i polled } = queue_now i in let e : taken_of (after v what) i ≡ taken_of v i = ap (λ (u : WorkQueue). u.taken) same in omega (arith, e)
+  settled_is : (i : ℕ) → (after v what).settled (Send i) ≡ record (v.settled (Send i)) { ends = (v.settled (Send i)).ends ++ numbers_in i polled }
+  settled_is i = settled_now n v cq most s.sane i
 
   free_now : (i : ℕ) → free_on v i ≤ free_on (after v what) i
-  free_now i = let e : free_on (after v what) i ≡ free_on v i = ap free_of (queue_now i) in omega (arith, e)
+  free_now i = let e : ((after v what).settled (Send i)).retired ≡ (v.settled (Send i)).retired = ap (λ (x : Settled). x.retired) (settled_is i) in omega (arith, e)
 
-  waits_at : (i k : ℕ) → k ≡ (v.pairs i).send_cq → numbers_in i (v.completions k).unpolled ≡ numbers_in i polled ++ numbers_in i ((after v what).completions k).unpolled
-  waits_at i =
-      put_completions (λ k c. k ≡ (v.pairs i).send_cq → numbers_in i (v.completions k).unpolled ≡ numbers_in i polled ++ numbers_in i c.unpolled) v.completions cq (record (v.completions cq) { unpolled = drop (length (map completion_in polled)) there })
-      (λ e.
-      ap (numbers_in i) (sym (take-append-drop most there))
-      ∙ numbers-append i polled (drop most there)
-      ∙ ap (λ (us : List Unpolled). numbers_in i polled ++ numbers_in i us) (sym (left_behind most there)))
-      (λ k apart e. ap (λ (ns : List ℕ). ns ++ numbers_in i (v.completions k).unpolled) (sym (numbers_away v.pair_lives v.pairs cq i polled (homed_take (IsHomed v.pair_lives v.pairs cq) most there (s.completions cq).homed) (λ same. apart (e ∙ same)))))
-
-  pub waits_now : (i : ℕ) → waiting v i ≡ numbers_in i polled ++ waiting (after v what) i
-  waits_now i =
-      ap (λ (ns : List ℕ). ns ++ numbers_in i (map completed_by v.owed)) (waits_at i (v.pairs i).send_cq refl)
-      ∙ append_assoc (numbers_in i polled) (numbers_in i ((after v what).completions (v.pairs i).send_cq).unpolled) (numbers_in i (map completed_by v.owed))
-
-  completions_now : (k : ℕ) → CompletionsSane v.pair_lives v.pairs (v.completions_live k) k ((after v what).completions k) (owed_into k v.owed) (into v.pairs (taken_of (after v what)) k FIRST_QP n) (into v.pairs bounds.posts k FIRST_QP n) (bounds.first k)
-  completions_now =
-      put_completions (λ k c. CompletionsSane v.pair_lives v.pairs (v.completions_live k) k c (owed_into k v.owed) (into v.pairs (taken_of (after v what)) k FIRST_QP n) (into v.pairs bounds.posts k FIRST_QP n) (bounds.first k)) v.completions cq (record (v.completions cq) { unpolled = drop (length (map completion_in polled)) there })
-      (let c = completions_stay n bounds v dues (taken_of (after v what)) s taken_now cq in
-      let long : length (drop (length (map completion_in polled)) there) ≡ length there - length (map completion_in polled) = length-drop (length (map completion_in polled)) there in
-      record { homed = homed_drop (IsHomed v.pair_lives v.pairs cq) (length (map completion_in polled)) there c.homed; acked = omega (arith, c.acked, long); begun = c.begun; produced = c.produced; fits = c.fits })
-      (λ k apart. completions_stay n bounds v dues (taken_of (after v what)) s taken_now k)
+  polled_more : (posted : List Item) (ends ns : List ℕ) (i i' r r' total : ℕ) → i' ≤ i → r' ≡ r + length ns → QueueWithin posted ends i r total → QueueWithin posted (ends ++ ns) i' r' total
+  polled_more posted ends ns i i' r r' total le e q =
+      let long : length (ends ++ ns) ≡ length ends + length ns = length-append ends ns in
+      record { nops = q.nops; posts = omega (arith, q.posts, le); retires = omega (arith, e, long, q.retires) }
 
   poll_goes : (t : ℕ) (due : Due) (rest : List Due) → Owes dues t due rest → PollsNext v cq most due → Goes n bounds v (suc t) what (slice_set dues t (ends_owed cq polled ++ rest))
   poll_goes t due rest o h =
-      let homed : AllByRecursion (IsHomed v.pair_lives v.pairs cq) polled = homed_take (IsHomed v.pair_lives v.pairs cq) most there (s.completions cq).homed in
-      let p = proper_at v.pair_lives v.completions_live (free_on v) dues t due rest s.owing o in
-      let left : List Due = ends_owed cq polled in record {
-        legal = MayStep_poll {v = v} {cq = cq} (record {
-          host = host_of n bounds v dues t due rest s o;
-          lives = h.live;
-          named = named_each v cq polled homed;
-          least = h.least;
-          greatest = h.greatest;
-          front = refl;
+      let homed : AllByRecursion (IsHomed v.device.pair_lives v.device.pairs cq) polled = homed_take (IsHomed v.device.pair_lives v.device.pairs cq) most (v.unpolled cq) (s.sane.completions cq).homed in
+      let p = proper_at v.device.pair_lives v.device.completions_live (free_on v) dues t due rest s.within.owing o in
+      let left : List Due = ends_owed cq polled in
+      goes n v (suc t) what bounds (slice_set dues t (left ++ rest)) s.sane
+      (MayStep_poll {v = v} {cq = cq} (record {
+        host = host_of n bounds v dues t due rest s o;
+        lives = h.live;
+        named = named_each v cq polled homed;
+        least = h.least;
+        greatest = h.greatest;
+        front = refl;
+      }))
+      (record {
+        queues = λ i. subst (λ (settled : Settled). QueueWithin (v.posted (Send i)) settled.ends (over_dues (items_on i) (slice_set dues t (left ++ rest))) (over_dues (retires_on i) (slice_set dues t (left ++ rest))) (bounds.posts i)) (sym (settled_is i))
+            (polled_more (v.posted (Send i)) (v.settled (Send i)).ends (numbers_in i polled) _ _ _ _ (bounds.posts i) (omega (arith, over_after (items_on i) dues t due rest left o, items_settling i cq polled)) (omega (arith, over_after (retires_on i) dues t due rest left o, retires_settling i cq polled, h.retires_are i)) (s.within.queues i));
+        completions = s.within.completions;
+        owing = owing_after v.device.pair_lives v.device.completions_live (free_on v) (free_on (after v what)) dues t due rest (left ++ rest) s.within.owing o (record {
+          proper = proper_rest v.device.pair_lives v.device.completions_live _ (left ++ rest) (proper_settling v.device.pair_lives v.device.completions_live v.device.pairs cq polled rest h.live homed p.1);
+          posts = λ i none. posts_settling i cq polled rest ∙ rest_posts (posts_on i due) (list_any (posts_on i) rest) none;
+          others = λ i. inl (free_now i);
         });
-        sane = record {
-          lives = s.lives;
-          queues = λ i. subst (λ (u : WorkQueue). QueueSane u (waiting (after v what) i) (over_dues (items_on i) (slice_set dues t (left ++ rest))) (over_dues (retires_on i) (slice_set dues t (left ++ rest))) (bounds.posts i)) (sym (queue_now i))
-              (polls (v.queues (Send i)) (numbers_in i polled) (waiting v i) (waiting (after v what) i) _ _ _ _ (bounds.posts i) (waits_now i) (omega (arith, over_after (items_on i) dues t due rest left o, items_settling i cq polled)) (omega (arith, over_after (retires_on i) dues t due rest left o, retires_settling i cq polled, h.retires_are i)) (s.queues i));
-          completions = completions_now;
-          hand = s.hand;
-          owing = owing_after v.pair_lives v.completions_live (free_on v) (free_on (after v what)) dues t due rest (left ++ rest) s.owing o (record {
-            proper = proper_rest v.pair_lives v.completions_live _ (left ++ rest) (proper_settling v.pair_lives v.completions_live v.pairs cq polled rest h.live homed p.1);
-            posts = λ i none. posts_settling i cq polled rest ∙ rest_posts (posts_on i due) (list_any (posts_on i) rest) none;
-            others = λ i. inl (free_now i);
-          });
-        };
-      }
+      })
 
   pub polling_goes : (t : ℕ) (rest : List Due) → Owes dues t (Polling cq most) rest → Goes n bounds v (suc t) what (slice_set dues t (ends_owed cq polled ++ rest))
   polling_goes t rest o =
-      let p = (proper_at v.pair_lives v.completions_live (free_on v) dues t (Polling cq most) rest s.owing o).0 in
+      let p = (proper_at v.device.pair_lives v.device.completions_live (free_on v) dues t (Polling cq most) rest s.within.owing o).0 in
       poll_goes t (Polling cq most) rest o (record { items_are = λ i. refl; retires_are = λ i. refl; live = p.0; least = p.1; greatest = p.2 })
 
   -- told by the completions that it took
-  pub polling_shown : (t : ℕ) (rest : List Due) (completions : List Completion) → Owes dues t (Polling cq most) rest → completions ≡ map completion_in (take most (v.completions cq).unpolled)
+  pub polling_shown : (t : ℕ) (rest : List Due) (completions : List Completion) → Owes dues t (Polling cq most) rest → completions ≡ map completion_in (take most (v.unpolled cq))
       → Goes n bounds v (suc t) (Poll cq most completions) (slice_set dues t (settling cq completions ++ rest))
   polling_shown t rest completions o is = subst (λ (xs : List Completion). Goes n bounds v (suc t) (Poll cq most xs) (slice_set dues t (settling cq xs ++ rest))) (sym is) (polling_goes t rest o)
 
 -- a poll that takes one
-pub draining_goes : (n : ℕ) (bounds : Bounds) (v : Verbs) (dues : List (List Due)) (t cq : ℕ) (rest : List Due) → Sane n bounds v dues → Owes dues t (Draining cq) rest
-    → Goes n bounds v (suc t) (Poll cq 1 (map completion_in (take 1 (v.completions cq).unpolled))) (slice_set dues t (ends_owed cq (take 1 (v.completions cq).unpolled) ++ rest))
+pub draining_goes : (n : ℕ) (bounds : Bounds) (v : Verbs) (dues : List (List Due)) (t cq : ℕ) (rest : List Due) → InBounds n bounds v dues → Owes dues t (Draining cq) rest
+    → Goes n bounds v (suc t) (Poll cq 1 (map completion_in (take 1 (v.unpolled cq)))) (slice_set dues t (ends_owed cq (take 1 (v.unpolled cq)) ++ rest))
 draining_goes n bounds v dues t cq rest s o =
-    let p = (proper_at v.pair_lives v.completions_live (free_on v) dues t (Draining cq) rest s.owing o).0 in
+    let p = (proper_at v.device.pair_lives v.device.completions_live (free_on v) dues t (Draining cq) rest s.within.owing o).0 in
     poll_goes n bounds v dues cq 1 s t (Draining cq) rest o (record { items_are = λ i. refl; retires_are = λ i. refl; live = p; least = omega arith; greatest = omega arith })
 
 -- told by the completions that it took
-pub draining_shown : (n : ℕ) (bounds : Bounds) (v : Verbs) (dues : List (List Due)) (t cq : ℕ) (rest : List Due) (completions : List Completion) → Sane n bounds v dues → Owes dues t (Draining cq) rest → completions ≡ map completion_in (take 1 (v.completions cq).unpolled)
+pub draining_shown : (n : ℕ) (bounds : Bounds) (v : Verbs) (dues : List (List Due)) (t cq : ℕ) (rest : List Due) (completions : List Completion) → InBounds n bounds v dues → Owes dues t (Draining cq) rest → completions ≡ map completion_in (take 1 (v.unpolled cq))
     → Goes n bounds v (suc t) (Poll cq 1 completions) (slice_set dues t (settling cq completions ++ rest))
 draining_shown n bounds v dues t cq rest completions s o is =
     subst (λ (xs : List Completion). Goes n bounds v (suc t) (Poll cq 1 xs) (slice_set dues t (settling cq xs ++ rest))) (sym is) (draining_goes n bounds v dues t cq rest s o)
@@ -192,86 +168,78 @@ draining_shown n bounds v dues t cq rest completions s o is =
 -- Retirements
 
 -- where a retirement is owed, an end is there
-pub retire_there : (n : ℕ) (bounds : Bounds) (v : Verbs) (dues : List (List Due)) (t qp : ℕ) (rest : List Due) → Sane n bounds v dues → Owes dues t (Retiring (Send qp)) rest → 0 < length (v.queues (Send qp)).ends
+pub retire_there : (n : ℕ) (bounds : Bounds) (v : Verbs) (dues : List (List Due)) (t qp : ℕ) (rest : List Due) → InBounds n bounds v dues → Owes dues t (Retiring (Send qp)) rest → 0 < length (v.settled (Send qp)).ends
 retire_there n bounds v dues t qp rest s o =
     let one : retires_on qp (Retiring (Send qp)) ≡ 1 = ap (λ b. if b then 1 else 0) (same_queue_refl (Send qp)) in
     let le : retires_on qp (Retiring (Send qp)) ≤ over_dues (retires_on qp) dues = over_due (retires_on qp) dues t (Retiring (Send qp)) rest o in
-    omega (arith, one, le, (s.queues qp).retires)
+    omega (arith, one, le, (s.within.queues qp).retires)
 
 -- and which end is the first
-pub retire_first : (n : ℕ) (bounds : Bounds) (v : Verbs) (dues : List (List Due)) (t qp : ℕ) (rest : List Due) → Sane n bounds v dues → Owes dues t (Retiring (Send qp)) rest → (number : ℕ) × (others : List ℕ) × ((v.queues (Send qp)).ends ≡ number ∷ others)
-retire_first n bounds v dues t qp rest s o = by (v.queues (Send qp)).ends (retire_there n bounds v dues t qp rest s o)
+pub retire_first : (n : ℕ) (bounds : Bounds) (v : Verbs) (dues : List (List Due)) (t qp : ℕ) (rest : List Due) → InBounds n bounds v dues → Owes dues t (Retiring (Send qp)) rest → (number : ℕ) × (others : List ℕ) × ((v.settled (Send qp)).ends ≡ number ∷ others)
+retire_first n bounds v dues t qp rest s o = by (v.settled (Send qp)).ends (retire_there n bounds v dues t qp rest s o)
   where
     by : (ns : List ℕ) → 0 < length ns → (number : ℕ) × (others : List ℕ) × (ns ≡ number ∷ others)
     by [] low = absurd (omega (arith, low))
     by (m ∷ ms) low = (m, ms, refl)
 
 -- told by the first end
-pub retire_goes : (n : ℕ) (bounds : Bounds) (v : Verbs) (dues : List (List Due)) (t qp number : ℕ) (others : List ℕ) (rest : List Due) → Sane n bounds v dues → Owes dues t (Retiring (Send qp)) rest → (v.queues (Send qp)).ends ≡ number ∷ others
+pub retire_goes : (n : ℕ) (bounds : Bounds) (v : Verbs) (dues : List (List Due)) (t qp number : ℕ) (others : List ℕ) (rest : List Due) → InBounds n bounds v dues → Owes dues t (Retiring (Send qp)) rest → (v.settled (Send qp)).ends ≡ number ∷ others
     → Goes n bounds v (suc t) (Retire (Send qp) number) (slice_set dues t rest)
 retire_goes n bounds v dues t qp number others rest s o first =
-    let u : WorkQueue = v.queues (Send qp) in
     let due : Due = Retiring (Send qp) in
-    let p = proper_at v.pair_lives v.completions_live (free_on v) dues t due rest s.owing o in
+    let settled : Settled = record { retired = number; ends = rest_of (v.settled (Send qp)).ends } in
+    let p = proper_at v.device.pair_lives v.device.completions_live (free_on v) dues t due rest s.within.owing o in
     let same : p.0.qp ≡ qp = cc p.0.is in
     let one : retires_on qp due ≡ 1 = ap (λ b. if b then 1 else 0) (same_queue_refl (Send qp)) in
     let none : (i : ℕ) → i ≢ qp → retires_on i due ≡ 0 = λ i apart. ap (λ b. if b then 1 else 0) (differs i qp apart) in
-    let climbs : QueueSane (rows.retire u number) (waiting v qp) (over_dues (items_on qp) (slice_set dues t rest)) (over_dues (retires_on qp) (slice_set dues t rest)) (bounds.posts qp) =
-    retires u number others (waiting v qp) _ _ _ _ (bounds.posts qp) first (omega (arith, over_after (items_on qp) dues t due rest [] o)) (omega (arith, over_after (retires_on qp) dues t due rest [] o, one)) (s.queues qp) in
-    record {
-      legal = MayStep_retire {v = v} {queue = Send qp} (record {
-        host = host_of n bounds v dues t due rest s o;
-        lives = subst (λ k. v.pair_lives k ≡ true) same p.0.living;
-        first = first ∙ ap (λ (ns : List ℕ). number ∷ rows.rest_of ns) (sym first);
+    let is_first : (v.settled (Send qp)).ends ≡ number ∷ rest_of (v.settled (Send qp)).ends = first ∙ ap (λ (ns : List ℕ). number ∷ rest_of ns) (sym first) in
+    let long : length (v.settled (Send qp)).ends ≡ suc (length (rest_of (v.settled (Send qp)).ends)) = ap length is_first in
+    goes n v (suc t) (Retire (Send qp) number) bounds (slice_set dues t rest) s.sane
+    (MayStep_retire {v = v} {queue = Send qp} (record {
+      host = host_of n bounds v dues t due rest s o;
+      lives = subst (λ k. v.device.pair_lives k ≡ true) same p.0.living;
+      first = is_first;
+    }))
+    (record {
+      queues = put_send (λ i x. QueueWithin (v.posted (Send i)) x.ends (over_dues (items_on i) (slice_set dues t rest)) (over_dues (retires_on i) (slice_set dues t rest)) (bounds.posts i)) v.settled qp settled
+          (let q = s.within.queues qp in
+          record { nops = q.nops; posts = omega (arith, over_after (items_on qp) dues t due rest [] o, q.posts); retires = omega (arith, over_after (retires_on qp) dues t due rest [] o, one, q.retires, long) })
+          (λ i apart. no_more (v.posted (Send i)) (v.settled (Send i)).ends _ _ _ _ (bounds.posts i) (omega (arith, over_after (items_on i) dues t due rest [] o)) (omega (arith, over_after (retires_on i) dues t due rest [] o, none i apart)) (s.within.queues i));
+      completions = s.within.completions;
+      owing = owing_after v.device.pair_lives v.device.completions_live (free_on v) (free_on (after v (Retire (Send qp) number))) dues t due rest rest s.within.owing o (record {
+        proper = proper_rest v.device.pair_lives v.device.completions_live _ rest p.1;
+        posts = λ i none. none;
+        others = λ i. inl (put_send (λ i x. free_on v i ≤ free_of (record (queue_in v (Send i)) { ends = x.ends; retired = x.retired })) v.settled qp settled (omega (arith, retired_up (queue_in v (Send qp)) number (waiting v qp) is_first (s.sane.queues qp))) (λ i apart. omega arith) i);
       });
-      sane = record {
-        lives = s.lives;
-        queues = put_queue (λ i w. QueueSane w (waiting v i) (over_dues (items_on i) (slice_set dues t rest)) (over_dues (retires_on i) (slice_set dues t rest)) (bounds.posts i)) v.queues qp (rows.retire u number) climbs
-            (λ i apart. stays (v.queues (Send i)) (waiting v i) (waiting v i) _ _ _ _ (bounds.posts i) refl (omega (arith, over_after (items_on i) dues t due rest [] o)) (omega (arith, over_after (retires_on i) dues t due rest [] o, none i apart)) (s.queues i));
-        completions = completions_stay n bounds v dues (taken_of (after v (Retire (Send qp) number))) s (put_queue (λ i w. taken_of v i ≤ w.taken) v.queues qp (rows.retire u number) (omega arith) (λ i apart. omega arith));
-        hand = s.hand;
-        owing = owing_after v.pair_lives v.completions_live (free_on v) (free_on (after v (Retire (Send qp) number))) dues t due rest rest s.owing o (record {
-          proper = proper_rest v.pair_lives v.completions_live _ rest p.1;
-          posts = λ i none. none;
-          others = λ i. inl (put_queue (λ i w. free_on v i ≤ free_of w) v.queues qp (rows.retire u number) (omega (arith, retired_up u number others _ _ _ _ first (s.queues qp))) (λ i apart. omega arith) i);
-        });
-      };
-    }
+    })
 
 -- the same where the first end is told by what is left
-pub retire_next : (n : ℕ) (bounds : Bounds) (v : Verbs) (dues : List (List Due)) (t qp : ℕ) (rest : List Due) → Sane n bounds v dues → Owes dues t (Retiring (Send qp)) rest → (number : ℕ) × Goes n bounds v (suc t) (Retire (Send qp) number) (slice_set dues t rest)
+pub retire_next : (n : ℕ) (bounds : Bounds) (v : Verbs) (dues : List (List Due)) (t qp : ℕ) (rest : List Due) → InBounds n bounds v dues → Owes dues t (Retiring (Send qp)) rest → (number : ℕ) × Goes n bounds v (suc t) (Retire (Send qp) number) (slice_set dues t rest)
 retire_next n bounds v dues t qp rest s o = let first = retire_first n bounds v dues t qp rest s o in (first.0, retire_goes n bounds v dues t qp first.0 first.1 rest s o first.2)
 
 -- Acknowledgements
 
-waits_ack : (v : Verbs) (cq index i : ℕ) → waiting (after v (Ack cq index)) i ≡ waiting v i
-waits_ack v cq index i =
-    ap (λ (ns : List ℕ). ns ++ numbers_in i (map completed_by v.owed))
-    (put_completions (λ k c. numbers_in i c.unpolled ≡ numbers_in i (v.completions k).unpolled) v.completions cq (record (v.completions cq) { acked = index }) refl (λ k apart. refl) (v.pairs i).send_cq)
-
-pub ack_goes : (n : ℕ) (bounds : Bounds) (v : Verbs) (dues : List (List Due)) (t cq : ℕ) (rest : List Due) → Sane n bounds v dues → Owes dues t (Acking cq) rest
-    → Goes n bounds v (suc t) (Ack cq ((v.completions cq).produced - length (v.completions cq).unpolled)) (slice_set dues t rest)
+pub ack_goes : (n : ℕ) (bounds : Bounds) (v : Verbs) (dues : List (List Due)) (t cq : ℕ) (rest : List Due) → InBounds n bounds v dues → Owes dues t (Acking cq) rest
+    → Goes n bounds v (suc t) (Ack cq (v.device.produced cq - length (v.unpolled cq))) (slice_set dues t rest)
 ack_goes n bounds v dues t cq rest s o =
     let due : Due = Acking cq in
-    let index : ℕ = (v.completions cq).produced - length (v.completions cq).unpolled in
-    let p = proper_at v.pair_lives v.completions_live (free_on v) dues t due rest s.owing o in record {
-      legal = MayStep_ack {v = v} {cq = cq} (record { host = host_of n bounds v dues t due rest s o; lives = p.0; oldest = refl });
-      sane = record {
-        lives = s.lives;
-        queues = λ i. stays (v.queues (Send i)) (waiting v i) (waiting (after v (Ack cq index)) i) _ _ _ _ (bounds.posts i) (waits_ack v cq index i) (omega (arith, over_after (items_on i) dues t due rest [] o)) (omega (arith, over_after (retires_on i) dues t due rest [] o)) (s.queues i);
-        completions = put_completions (λ k c. CompletionsSane v.pair_lives v.pairs (v.completions_live k) k c (owed_into k v.owed) (into v.pairs (taken_of v) k FIRST_QP n) (into v.pairs bounds.posts k FIRST_QP n) (bounds.first k)) v.completions cq (record (v.completions cq) { acked = index })
-            (let c = s.completions cq in record { homed = c.homed; acked = omega (arith, c.acked); begun = omega (arith, c.acked, c.begun); produced = c.produced; fits = c.fits })
-            (λ k apart. s.completions k);
-        hand = s.hand;
-        owing = owing_after v.pair_lives v.completions_live (free_on v) (free_on v) dues t due rest rest s.owing o (record {
-          proper = proper_rest v.pair_lives v.completions_live _ rest p.1;
-          posts = λ i none. none;
-          others = λ i. inl (omega arith);
-        });
-      };
-    }
+    let index : ℕ = v.device.produced cq - length (v.unpolled cq) in
+    let p = proper_at v.device.pair_lives v.device.completions_live (free_on v) dues t due rest s.within.owing o in
+    goes n v (suc t) (Ack cq index) bounds (slice_set dues t rest) s.sane
+    (MayStep_ack {v = v} {cq = cq} (record { host = host_of n bounds v dues t due rest s o; lives = p.0; oldest = refl }))
+    (record {
+      queues = λ i. no_more (v.posted (Send i)) (v.settled (Send i)).ends _ _ _ _ (bounds.posts i) (omega (arith, over_after (items_on i) dues t due rest [] o)) (omega (arith, over_after (retires_on i) dues t due rest [] o)) (s.within.queues i);
+      completions = put_one (λ k acked. CompletionsWithin (v.device.completions_live k) (v.limits.size k) (v.device.produced k) acked (owed_into k v.device.owed) (into v.device.pairs (taken_of v) k FIRST_QP n) (into v.device.pairs bounds.posts k FIRST_QP n) (bounds.first k)) v.acked cq index
+          (let c = s.within.completions cq in record { begun = omega (arith, (s.sane.completions cq).acked, c.begun); produced = c.produced; fits = c.fits })
+          (λ k apart. s.within.completions k);
+      owing = owing_after v.device.pair_lives v.device.completions_live (free_on v) (free_on v) dues t due rest rest s.within.owing o (record {
+        proper = proper_rest v.device.pair_lives v.device.completions_live _ rest p.1;
+        posts = λ i none. none;
+        others = λ i. inl (omega arith);
+      });
+    })
 
 -- told by the index
-pub ack_shown : (n : ℕ) (bounds : Bounds) (v : Verbs) (dues : List (List Due)) (t cq index : ℕ) (rest : List Due) → Sane n bounds v dues → Owes dues t (Acking cq) rest → index ≡ (v.completions cq).produced - length (v.completions cq).unpolled
+pub ack_shown : (n : ℕ) (bounds : Bounds) (v : Verbs) (dues : List (List Due)) (t cq index : ℕ) (rest : List Due) → InBounds n bounds v dues → Owes dues t (Acking cq) rest → index ≡ v.device.produced cq - length (v.unpolled cq)
     → Goes n bounds v (suc t) (Ack cq index) (slice_set dues t rest)
 ack_shown n bounds v dues t cq index rest s o is = subst (λ k. Goes n bounds v (suc t) (Ack cq k) (slice_set dues t rest)) (sym is) (ack_goes n bounds v dues t cq rest s o)

@@ -6,6 +6,9 @@ pub mod Climbing
 pub mod Counting
 pub mod Waiting
 pub mod Queued
+pub mod KeptHost
+pub mod KeptAdapter
+pub mod Kept
 pub mod Owing
 pub mod Steady
 pub mod GoesPost

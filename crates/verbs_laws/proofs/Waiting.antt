@@ -10,7 +10,7 @@ use Rattle.verbs_types.specs.declared.state.Unpolled.{Unpolled}
 use Rattle.verbs_rules.specs.Family.{put}
 use Rattle.verbs_rules.specs.Rows.{end, end_all}
 use Rattle.verbs_rules.specs.Same.{same_queue}
-use Rattle.verbs_rules.specs.State.{WorkQueue}
+use Rattle.verbs_rules.specs.State.{Settled}
 use Rattle.verbs_laws.proofs.Sameness.{same_queue-true}
 use Rattle.verbs_rules.specs.Sane.{numbers_in, IsHomed}
 use Rattle.verbs_laws.proofs.Choices.{differs}
@@ -45,7 +45,7 @@ numbers_away lives pairs cq qp (u ∷ us) homed away =
     numbers_other lives pairs cq qp u us homed.0 (λ same. away (ap (λ i. (pairs i).send_cq) same ∙ homed.0.home)) ∙ numbers_away lives pairs cq qp us homed.1 away
 
 -- the ends that a poll adds to a queue
-ended_one : (f : Queue → WorkQueue) (u : Unpolled) (i : ℕ) (ns : List ℕ) (b : Bool) → (same_queue (Send i) u.completion.queue) ≡ b
+ended_one : (f : Queue → Settled) (u : Unpolled) (i : ℕ) (ns : List ℕ) (b : Bool) → (same_queue (Send i) u.completion.queue) ≡ b
     → record (if b then end (f u.completion.queue) u.number else f (Send i)) { ends = (if b then end (f u.completion.queue) u.number else f (Send i)).ends ++ ns } ≡ record (f (Send i)) { ends = (f (Send i)).ends ++ (if b then u.number ∷ ns else ns) }
 ended_one f u i ns true e =
     let is : u.completion.queue ≡ Send i = sym (same_queue-true (Send i) u.completion.queue e) in
@@ -53,7 +53,7 @@ ended_one f u i ns true e =
     ∙ ap (λ (ends : List ℕ). record (f (Send i)) { ends = ends }) (append_assoc (f (Send i)).ends (u.number ∷ []) ns)
 ended_one f u i ns false e = refl
 
-pub ended_at : (f : Queue → WorkQueue) (us vs : List Unpolled) (i : ℕ) → end_all f (map completion_in us) (us ++ vs) (Send i) ≡ record (f (Send i)) { ends = (f (Send i)).ends ++ numbers_in i us }
+pub ended_at : (f : Queue → Settled) (us vs : List Unpolled) (i : ℕ) → end_all f (map completion_in us) (us ++ vs) (Send i) ≡ record (f (Send i)) { ends = (f (Send i)).ends ++ numbers_in i us }
 ended_at f [] vs i = ap (λ (ends : List ℕ). record (f (Send i)) { ends = ends }) (sym (append-nil (f (Send i)).ends))
 ended_at f (u ∷ us) vs i =
     ended_at (put same_queue f u.completion.queue (end (f u.completion.queue) u.number)) us vs i

@@ -1,5 +1,6 @@
 pub mod Family
 pub mod State
+pub mod OfOne
 pub mod Same
 pub mod Rules
 pub mod Rows
@@ -8,5 +9,6 @@ pub mod Legal
 pub mod Answered
 pub mod Proper
 pub mod Sane
+pub mod Within
 pub mod Start
 pub mod Running

@@ -19,17 +19,12 @@ use Rattle.verbs_types.specs.declared.state.Unpolled.{Unpolled}
 use Rattle.verbs_types.specs.declared.state.QueuePair.{QueuePair}
 use Rattle.verbs_types.specs.declared.state.Act.{Act}
 use Rattle.verbs_types.specs.declared.state.Act.TheVariants.{Complete}
-use Rattle.verbs_rules.specs.Family.{put}
+use Rattle.verbs_rules.specs.Family.{put, same_number}
 use Rattle.verbs_types.specs.Lines.{is_between}
 use Rattle.verbs_rules.specs.Rules.{Test}
 use Rattle.verbs_rules.specs.Same.{same_queue, same_completion, is_front}
-use Rattle.verbs_rules.specs.State.{WorkQueue, CompletionQueue, Verbs}
-
-abbrev pub with_queue : Verbs → Queue → WorkQueue → Verbs
-with_queue v queue u = record v { queues = put same_queue v.queues queue u }
-
-abbrev pub with_completions : Verbs → ℕ → CompletionQueue → Verbs
-with_completions v cq c = record v { completions = put (λ (m n : ℕ). m == n) v.completions cq c }
+use Rattle.verbs_rules.specs.State.{Settled, Verbs}
+use Rattle.verbs_rules.specs.OfOne.{WorkQueue, CompletionQueue}
 
 abbrev pub rest_of : {X : Type 0} → List X → List X
 rest_of [] = []
@@ -54,8 +49,8 @@ post_needs queue u items =
     ∷ record { rule = Content; holds = nat_lt 0 (length items) && list_all (item_fits queue u.segments) items }
     ∷ []
 
-abbrev pub post : WorkQueue → List Item → WorkQueue
-post u items = record u { posted = u.posted ++ items }
+abbrev pub post : Verbs → Queue → List Item → Verbs
+post v queue items = record v { posted = put same_queue v.posted queue (v.posted queue ++ items) }
 
 -- PostFull: as many requests are outstanding as the queue has room for, those of this call included
 
@@ -71,18 +66,19 @@ poll_needs c most completions =
     ∷ []
 
 -- each polled completion adds the number of its request to what its queue is to retire
-abbrev pub end : WorkQueue → ℕ → WorkQueue
-end u number = record u { ends = u.ends ++ number ∷ [] }
+abbrev pub end : Settled → ℕ → Settled
+end s number = record s { ends = s.ends ++ number ∷ [] }
 
-abbrev pub end_all : (Queue → WorkQueue) → List Completion → List Unpolled → Queue → WorkQueue
-end_all queues [] us = queues
-end_all queues (x ∷ xs) [] = queues
-end_all queues (x ∷ xs) (u ∷ us) = end_all (put same_queue queues x.queue (end (queues x.queue) u.number)) xs us
+abbrev pub end_all : (Queue → Settled) → List Completion → List Unpolled → Queue → Settled
+end_all settled [] us = settled
+end_all settled (x ∷ xs) [] = settled
+end_all settled (x ∷ xs) (u ∷ us) = end_all (put same_queue settled x.queue (end (settled x.queue) u.number)) xs us
 
 abbrev pub poll : Verbs → ℕ → List Completion → Verbs
-poll v cq completions =
-    with_completions (record v { queues = end_all v.queues completions (v.completions cq).unpolled }) cq
-    (record (v.completions cq) { unpolled = drop (length completions) (v.completions cq).unpolled })
+poll v cq completions = record v {
+  settled = end_all v.settled completions (v.unpolled cq);
+  unpolled = put same_number v.unpolled cq (drop (length completions) (v.unpolled cq));
+}
 
 -- Retire: the oldest end
 
@@ -93,13 +89,16 @@ is_first n (m ∷ ms) = n == m
 abbrev pub retire_needs : WorkQueue → ℕ → List Test
 retire_needs u count = record { rule = Count; holds = is_first count u.ends } ∷ []
 
-abbrev pub retire : WorkQueue → ℕ → WorkQueue
-retire u count = record u { ends = rest_of u.ends; retired = count }
+abbrev pub retire : Verbs → Queue → ℕ → Verbs
+retire v queue count = record v { settled = put same_queue v.settled queue (record { retired = count; ends = rest_of (v.settled queue).ends }) }
 
 -- Ack: the index of the oldest completion that no poll took
 
 abbrev pub ack_needs : CompletionQueue → ℕ → List Test
 ack_needs c index = record { rule = Count; holds = index == c.produced - length c.unpolled } ∷ []
+
+abbrev pub ack : Verbs → ℕ → ℕ → Verbs
+ack v cq index = record v { acked = put same_number v.acked cq index }
 
 -- Fetch: the next request, with empty hands, of a queue pair that works
 
@@ -122,14 +121,14 @@ can_do (Some (TheRequest r)) = is_nop r.op
 can_do _ = false
 
 abbrev pub runs : Verbs → Queue → ℕ → Bool
-runs v (Send qp) number = works (v.pairs qp).state && can_do (slice_get (v.queues (Send qp)).posted (number - 1))
+runs v (Send qp) number = works (v.device.pairs qp).state && can_do (slice_get (v.posted (Send qp)) (number - 1))
 runs v (Recv qp) number = false
 runs v (Shared srq) number = false
 
 abbrev pub fetch_needs : Verbs → Queue → ℕ → List Test
 fetch_needs v queue number =
-    record { rule = Hand; holds = is_idle v.owed }
-    ∷ record { rule = Count; holds = (number == (v.queues queue).taken + 1) && nat_le number (length (v.queues queue).posted) }
+    record { rule = Hand; holds = is_idle v.device.owed }
+    ∷ record { rule = Count; holds = (number == v.device.taken queue + 1) && nat_le number (length (v.posted queue)) }
     ∷ record { rule = Content; holds = runs v queue number }
     ∷ []
 
@@ -162,11 +161,13 @@ abbrev pub acts_of : QueuePair → ℕ → ℕ → Option Item → List Act
 acts_of pair qp number (Some (TheRequest r)) = completion_owed pair qp number r
 acts_of pair qp number _ = []
 
-abbrev pub take : WorkQueue → ℕ → WorkQueue
-take u number = record u { taken = number }
-
 abbrev pub fetch : Verbs → Queue → ℕ → Verbs
-fetch v (Send qp) number = record (with_queue v (Send qp) (take (v.queues (Send qp)) number)) { owed = acts_of (v.pairs qp) qp number (slice_get (v.queues (Send qp)).posted (number - 1)) }
+fetch v (Send qp) number = record v {
+  device = record v.device {
+    taken = put same_queue v.device.taken (Send qp) number;
+    owed = acts_of (v.device.pairs qp) qp number (slice_get (v.posted (Send qp)) (number - 1));
+  };
+}
 fetch v (Recv qp) number = v
 fetch v (Shared srq) number = v
 
@@ -182,12 +183,14 @@ owes x (Complete owner u ∷ acts) = same_completion x u.completion
 
 abbrev pub publish_needs : Verbs → ℕ → Completion → List Test
 publish_needs v cq completion =
-    record { rule = Hand; holds = owes_for cq v.owed }
-    ∷ record { rule = Count; holds = nat_lt ((v.completions cq).produced - (v.completions cq).acked) (v.completions cq).size }
-    ∷ record { rule = Content; holds = owes completion v.owed }
+    record { rule = Hand; holds = owes_for cq v.device.owed }
+    ∷ record { rule = Count; holds = nat_lt (v.device.produced cq - v.acked cq) (v.limits.size cq) }
+    ∷ record { rule = Content; holds = owes completion v.device.owed }
     ∷ []
 
 abbrev pub publish : Verbs → ℕ → List Act → Verbs
 publish v cq [] = v
-publish v cq (Complete owner u ∷ acts) =
-    record (with_completions v cq (record (v.completions cq) { produced = (v.completions cq).produced + 1; unpolled = (v.completions cq).unpolled ++ u ∷ [] })) { owed = acts }
+publish v cq (Complete owner u ∷ acts) = record v {
+  unpolled = put same_number v.unpolled cq (v.unpolled cq ++ u ∷ []);
+  device = record v.device { produced = put same_number v.device.produced cq (v.device.produced cq + 1); owed = acts };
+}

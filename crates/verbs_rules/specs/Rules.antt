@@ -56,20 +56,20 @@ is_by actor (Execute of command answer) = actor == ADAPTER
 
 -- no shared receive queue can be declared yet
 abbrev pub queue_lives : Verbs → Queue → Bool
-queue_lives v (Send qp) = v.pair_lives qp
-queue_lives v (Recv qp) = v.pair_lives qp
+queue_lives v (Send qp) = v.device.pair_lives qp
+queue_lives v (Recv qp) = v.device.pair_lives qp
 queue_lives v (Shared srq) = false
 
 abbrev pub names_living : Verbs → Completion → Bool
-names_living v x = queue_lives v x.queue && v.pair_lives x.qp
+names_living v x = queue_lives v x.queue && v.device.pair_lives x.qp
 
 -- Each object that the entry names lives. The entries that are not named here are not built: what they speak of never lives, so they have no step.
 abbrev pub objects_live : Verbs → What → Bool
 objects_live v (Post queue items) = queue_lives v queue
 objects_live v (PostFull queue pending head tail) = queue_lives v queue
-objects_live v (Poll cq most completions) = v.completions_live cq && list_all (names_living v) completions
+objects_live v (Poll cq most completions) = v.device.completions_live cq && list_all (names_living v) completions
 objects_live v (Retire queue count) = queue_lives v queue
-objects_live v (Ack cq index) = v.completions_live cq
+objects_live v (Ack cq index) = v.device.completions_live cq
 objects_live v (Fetch queue number) = queue_lives v queue
-objects_live v (Publish cq completion) = v.completions_live cq && names_living v completion
+objects_live v (Publish cq completion) = v.device.completions_live cq && names_living v completion
 objects_live v _ = false

@@ -1,7 +1,7 @@
 -- The queues, and what each thread still owes of its calls.
 use Rattle.std.specs.Prelude.{ℕ, ◌==◌, List}
 use Rattle.verbs_types.specs.declared.entry.Entry.{Entry}
-use Rattle.verbs_rules.specs.Family.{put}
+use Rattle.verbs_rules.specs.Family.{put, same_number}
 use Rattle.verbs_rules.specs.State.{Verbs}
 use Rattle.verbs_rules.specs.Step.{after}
 use Rattle.verbs_rules.specs.Answered.{Due, after_answer}
@@ -11,4 +11,4 @@ pub record Running : Type 0 where
   pub owed : ℕ → List Due
 
 abbrev pub after_turn : Running → Entry → Running
-after_turn r e = record { verbs = after r.verbs e.what; owed = put (λ (m n : ℕ). m == n) r.owed e.actor (after_answer (r.owed e.actor) e.what) }
+after_turn r e = record { verbs = after r.verbs e.what; owed = put same_number r.owed e.actor (after_answer (r.owed e.actor) e.what) }

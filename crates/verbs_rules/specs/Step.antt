@@ -6,16 +6,17 @@ use Rattle.verbs_types.specs.declared.entry.What.TheVariants.{Post, PostFull, Po
 use Rattle.verbs_types.specs.declared.entry.RuleName.{RuleName}
 use Rattle.verbs_types.specs.declared.entry.RuleName.TheVariants.{Actor, Object}
 use Rattle.verbs_rules.specs.State.{Verbs}
+use Rattle.verbs_rules.specs.OfOne.{queue_in, completions_in}
 use Rattle.verbs_rules.specs.Rules.{Test, first_failing, is_by, objects_live}
-use Rattle.verbs_rules.specs.Rows.{with_queue, with_completions, post_needs, post, full_needs, poll_needs, poll, retire_needs, retire, ack_needs, fetch_needs, fetch, publish_needs, publish}
+use Rattle.verbs_rules.specs.Rows.{post_needs, post, full_needs, poll_needs, poll, retire_needs, retire, ack_needs, ack, fetch_needs, fetch, publish_needs, publish}
 
 -- what an entry needs beside its actor and living objects; an entry that is not built has no living objects
 abbrev pub needs : Verbs → What → List Test
-needs v (Post queue items) = post_needs queue (v.queues queue) items
-needs v (PostFull queue pending head tail) = full_needs (v.queues queue) pending head tail
-needs v (Poll cq most completions) = poll_needs (v.completions cq) most completions
-needs v (Retire queue count) = retire_needs (v.queues queue) count
-needs v (Ack cq index) = ack_needs (v.completions cq) index
+needs v (Post queue items) = post_needs queue (queue_in v queue) items
+needs v (PostFull queue pending head tail) = full_needs (queue_in v queue) pending head tail
+needs v (Poll cq most completions) = poll_needs (completions_in v cq) most completions
+needs v (Retire queue count) = retire_needs (queue_in v queue) count
+needs v (Ack cq index) = ack_needs (completions_in v cq) index
 needs v (Fetch queue number) = fetch_needs v queue number
 needs v (Publish cq completion) = publish_needs v cq completion
 needs v _ = []
@@ -26,13 +27,13 @@ first_fault v e = first_failing (record { rule = Actor; holds = is_by e.actor e.
 
 -- what the entry makes
 abbrev pub after : Verbs → What → Verbs
-after v (Post queue items) = with_queue v queue (post (v.queues queue) items)
+after v (Post queue items) = post v queue items
 after v (PostFull queue pending head tail) = v
 after v (Poll cq most completions) = poll v cq completions
-after v (Retire queue count) = with_queue v queue (retire (v.queues queue) count)
-after v (Ack cq index) = with_completions v cq (record (v.completions cq) { acked = index })
+after v (Retire queue count) = retire v queue count
+after v (Ack cq index) = ack v cq index
 after v (Fetch queue number) = fetch v queue number
-after v (Publish cq completion) = publish v cq v.owed
+after v (Publish cq completion) = publish v cq v.device.owed
 after v _ = v
 
 -- no rule fails
