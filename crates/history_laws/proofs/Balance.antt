@@ -10,13 +10,13 @@ use Rattle.verbs_types.specs.declared.entry.What.TheVariants.{Post, PostFull, Po
 use Rattle.verbs_types.specs.declared.completion.Queue.TheVariants.{Send, Recv, Shared}
 use Rattle.verbs_rules.specs.Legal.{IsLegal}
 use Rattle.verbs_types.specs.Lines.{is_among}
-use Rattle.verbs_rules.specs.Start.{start, for_line, fresh_completions, no_completions}
-use Rattle.verbs_rules.specs.State.{CompletionQueue, Verbs}
+use Rattle.verbs_rules.specs.Start.{start}
+use Rattle.verbs_rules.specs.State.{Verbs}
 use Rattle.verbs_rules.specs.Step.{MayStep, after, after_entry}
 use Rattle.verbs_laws.proofs.Facts.{MayPublish_by_step}
 use Rattle.history_laws.specs.Laws.{completion_of, waiting_on, NoneIsLost}
 use Rattle.history_laws.specs.Said.{publishes_on, polls_from, published_on, polled_from}
-use Rattle.history_laws.proofs.Waiting.{poll_takes, publish_adds, ack_keeps}
+use Rattle.history_laws.proofs.Waiting.{poll_takes, publish_adds}
 
 -- what is published is polled or waits
 abbrev Balances : Verbs → ℕ → List Completion → List Completion → Type 0
@@ -43,7 +43,7 @@ module _ (cq : ℕ) (published polled : List Completion) where
   balance_after v actor (PostFull queue pending head tail) step b = same_wait v v refl b
   balance_after v actor (Poll other most completions) step b = took v (after v (Poll other most completions)) (polls_from cq (Poll other most completions)) (poll_takes v actor other most completions step cq) b
   balance_after v actor (Retire queue count) step b = same_wait v (after v (Retire queue count)) refl b
-  balance_after v actor (Ack other index) step b = same_wait v (after v (Ack other index)) (ack_keeps v other index cq) b
+  balance_after v actor (Ack other index) step b = same_wait v (after v (Ack other index)) refl b
   balance_after v actor (Fetch (Send qp) number) step b = same_wait v (after v (Fetch (Send qp) number)) refl b
   balance_after v actor (Fetch (Recv qp) number) step b = same_wait v v refl b
   balance_after v actor (Fetch (Shared srq) number) step b = same_wait v v refl b
@@ -74,16 +74,8 @@ balance_along cq published polled v (e ∷ history) legal b =
     sym (append_assoc published (publishes_on cq e.what) (published_on cq history))
     ∙ (later ∙ ap (λ (ps : List Completion). ps ++ waiting_on (fold after_entry (after v e.what) history) cq) (append_assoc polled (polls_from cq e.what) (polled_from cq history)))
 
-line_all : {X V : Type 0} (P : V → Type 0) (value : X → V) (none : V) → ((x : X) → P (value x)) → P none → (b : Bool) (o : Option X) → P (if b then option_map_or value o none else none)
-line_all P value none each nothing true None = nothing
-line_all P value none each nothing true (Some x) = each x
-line_all P value none each nothing false o = nothing
-
-pub for_line_all : {X V : Type 0} (P : V → Type 0) (first : ℕ) (lines : List X) (value : X → V) (none : V) (number : ℕ) → ((x : X) → P (value x)) → P none → P (for_line first lines value none number)
-for_line_all P first lines value none number each nothing = line_all P value none each nothing (is_among first (length lines) number) (slice_get lines (number - first))
-
 pub none_waits : (d : Lines) (cq : ℕ) → waiting_on (start d) cq ≡ []
-none_waits d cq = for_line_all (λ (c : CompletionQueue). map completion_of c.unpolled ≡ []) 0 d.cqs fresh_completions no_completions cq (λ l. refl) refl
+none_waits d cq = refl
 
 pub none_is_lost : NoneIsLost
 none_is_lost d history cq legal = balance_along cq [] [] (start d) history legal (sym (none_waits d cq))

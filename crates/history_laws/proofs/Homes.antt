@@ -22,7 +22,7 @@ use Rattle.verbs_laws.proofs.Facts.{MayPublish, MayPublish_by_step}
 use Rattle.verbs_laws.proofs.Sameness.{same_queue-true}
 use Rattle.history_laws.specs.Laws.{waiting_on}
 use Rattle.history_laws.specs.Said.{of_queue}
-use Rattle.history_laws.proofs.Waiting.{here, elsewhere, front_splits, polled_front, poll_takes, owed_adds, ack_keeps}
+use Rattle.history_laws.proofs.Waiting.{here, elsewhere, front_splits, polled_front, poll_takes, owed_adds}
 
 -- the completion queue of a work queue
 abbrev pub home : (ℕ → QueuePair) → Queue → ℕ
@@ -37,8 +37,8 @@ abbrev pub IsOwedAt : (ℕ → QueuePair) → Act → Type 0
 IsOwedAt pairs (Complete cq u) = IsAt pairs cq u.completion
 
 pub record Homed (v : Verbs) : Type 0 where
-  pub waiting : (cq : ℕ) → AllByRecursion (IsAt v.pairs cq) (waiting_on v cq)
-  pub hand : AllByRecursion (IsOwedAt v.pairs) v.owed
+  pub waiting : (cq : ℕ) → AllByRecursion (IsAt v.device.pairs cq) (waiting_on v cq)
+  pub hand : AllByRecursion (IsOwedAt v.device.pairs) v.device.owed
 
 module _ {X : Type 0} (P : X → Type 0) where
   pub all_front : (xs ys : List X) → AllByRecursion P (xs ++ ys) → AllByRecursion P xs
@@ -62,18 +62,18 @@ acts_home pairs qp number None = tt
 acts_home pairs qp number (Some (TheReceive r)) = tt
 acts_home pairs qp number (Some (TheRequest r)) = all_if (IsOwedAt pairs) (r.wanted || not (status_of (pairs qp).state == 0)) _ (λ due. refl)
 
-pub polled_home : (v : Verbs) (actor cq most : ℕ) (xs : List Completion) → MayStep v (record { actor = actor; what = Poll cq most xs }) → Homed v → AllByRecursion (IsAt v.pairs cq) xs
-polled_home v actor cq most xs step h = all_front (IsAt v.pairs cq) xs _ (subst (AllByRecursion (IsAt v.pairs cq)) (front_splits xs (v.completions cq).unpolled (polled_front v actor cq most xs step)) (h.waiting cq))
+pub polled_home : (v : Verbs) (actor cq most : ℕ) (xs : List Completion) → MayStep v (record { actor = actor; what = Poll cq most xs }) → Homed v → AllByRecursion (IsAt v.device.pairs cq) xs
+polled_home v actor cq most xs step h = all_front (IsAt v.device.pairs cq) xs _ (subst (AllByRecursion (IsAt v.device.pairs cq)) (front_splits xs (v.unpolled cq) (polled_front v actor cq most xs step)) (h.waiting cq))
 
-pub published_home : (v : Verbs) (actor cq : ℕ) (x : Completion) (may : MayPublish v actor cq x) → Homed v → IsAt v.pairs cq may.first.completion × AllByRecursion (IsOwedAt v.pairs) may.others
-published_home v actor cq x may h = subst (AllByRecursion (IsOwedAt v.pairs)) may.owed h.hand
+pub published_home : (v : Verbs) (actor cq : ℕ) (x : Completion) (may : MayPublish v actor cq x) → Homed v → IsAt v.device.pairs cq may.first.completion × AllByRecursion (IsOwedAt v.device.pairs) may.others
+published_home v actor cq x may h = subst (AllByRecursion (IsOwedAt v.device.pairs)) may.owed h.hand
 
-homed_published : (v : Verbs) (actor cq : ℕ) (x : Completion) → MayPublish v actor cq x → Homed v → Homed (publish v cq v.owed)
+homed_published : (v : Verbs) (actor cq : ℕ) (x : Completion) → MayPublish v actor cq x → Homed v → Homed (publish v cq v.device.owed)
 homed_published v actor cq x may h =
     let parts = published_home v actor cq x may h in
     subst (λ (acts : List Act). Homed (publish v cq acts)) (sym may.owed) (record {
-      waiting = λ k. subst (AllByRecursion (IsAt v.pairs k)) (sym (owed_adds v cq may.first may.others k))
-          (all_append (IsAt v.pairs k) (waiting_on v k) _ (h.waiting k) (all_if (IsAt v.pairs k) (k == cq) may.first.completion (λ same. parts.0 ∙ sym (eqb-true k cq same))));
+      waiting = λ k. subst (AllByRecursion (IsAt v.device.pairs k)) (sym (owed_adds v cq may.first may.others k))
+          (all_append (IsAt v.device.pairs k) (waiting_on v k) _ (h.waiting k) (all_if (IsAt v.device.pairs k) (k == cq) may.first.completion (λ same. parts.0 ∙ sym (eqb-true k cq same))));
       hand = parts.1;
     })
 
@@ -81,12 +81,12 @@ pub homed_after : (v : Verbs) (actor : ℕ) (w : What) → MayStep v (record { a
 homed_after v actor (Post queue items) step h = record { waiting = h.waiting; hand = h.hand }
 homed_after v actor (PostFull queue pending head tail) step h = h
 homed_after v actor (Poll cq most xs) step h = record {
-  waiting = λ k. all_back (IsAt v.pairs k) (if k == cq then xs else []) (waiting_on (poll v cq xs) k) (subst (AllByRecursion (IsAt v.pairs k)) (poll_takes v actor cq most xs step k) (h.waiting k));
+  waiting = λ k. all_back (IsAt v.device.pairs k) (if k == cq then xs else []) (waiting_on (poll v cq xs) k) (subst (AllByRecursion (IsAt v.device.pairs k)) (poll_takes v actor cq most xs step k) (h.waiting k));
   hand = h.hand;
 }
 homed_after v actor (Retire queue count) step h = record { waiting = h.waiting; hand = h.hand }
-homed_after v actor (Ack cq index) step h = record { waiting = λ k. subst (AllByRecursion (IsAt v.pairs k)) (sym (ack_keeps v cq index k)) (h.waiting k); hand = h.hand }
-homed_after v actor (Fetch (Send qp) number) step h = record { waiting = h.waiting; hand = acts_home v.pairs qp number _ }
+homed_after v actor (Ack cq index) step h = record { waiting = h.waiting; hand = h.hand }
+homed_after v actor (Fetch (Send qp) number) step h = record { waiting = h.waiting; hand = acts_home v.device.pairs qp number _ }
 homed_after v actor (Fetch (Recv qp) number) step h = h
 homed_after v actor (Fetch (Shared srq) number) step h = h
 homed_after v actor (Publish cq x) step h = homed_published v actor cq x (MayPublish_by_step v actor cq x step) h

@@ -18,10 +18,10 @@ use Rattle.verbs_types.specs.declared.request.Item.TheVariants.{Request as TheRe
 use Rattle.verbs_types.specs.declared.state.Act.TheVariants.{Complete}
 use Rattle.verbs_rules.specs.Family.{put}
 use Rattle.verbs_rules.specs.Legal.{IsLegal}
-use Rattle.verbs_rules.specs.Rows.{acts_of, fetch, poll, publish, retire, take}
+use Rattle.verbs_rules.specs.Rows.{acts_of, fetch, poll, publish}
 use Rattle.verbs_rules.specs.Same.{same_queue}
-use Rattle.verbs_rules.specs.Start.{start, fresh_queue, no_queue}
-use Rattle.verbs_rules.specs.State.{WorkQueue, Verbs}
+use Rattle.verbs_rules.specs.Start.{start}
+use Rattle.verbs_rules.specs.State.{Verbs}
 use Rattle.verbs_rules.specs.Step.{MayStep, after, after_entry}
 use Rattle.verbs_laws.proofs.Facts.{MayFetch, MayFetch_by_step, MayPublish, MayPublish_by_step}
 use Rattle.verbs_laws.proofs.Families.{put_at, put_beside}
@@ -29,17 +29,17 @@ use Rattle.verbs_laws.proofs.Sameness.{same_queue-true, same_queue_refl}
 use Rattle.history_laws.specs.Laws.{AllComeBack, IdsComeBack, NoneIsForgotten, owed_completion, owed_of, waiting_on}
 use Rattle.history_laws.specs.Said.{of_queue, polls, posts_on, publishes, posted_on, published_of, polled_of}
 use Rattle.history_laws.proofs.Accounts.{Account, quiet, posts_more, writes, polls_some, takes_next, in_order, all_answered, at_rest}
-use Rattle.history_laws.proofs.Balance.{for_line_all, none_waits}
+use Rattle.history_laws.proofs.Balance.{none_waits}
 use Rattle.history_laws.proofs.Homes.{Homed, IsAt, home, homed_after, own_alone, polled_home, published_home}
-use Rattle.history_laws.proofs.Queues.{post_grows, put_stays, ends_stay, can_do-true, acts_answer, acts_of_others}
-use Rattle.history_laws.proofs.Waiting.{poll_takes, owed_adds, ack_keeps}
+use Rattle.history_laws.proofs.Queues.{post_grows, can_do-true, acts_answer, acts_of_others}
+use Rattle.history_laws.proofs.Waiting.{poll_takes, owed_adds}
 
 -- the completions of a work queue's requests that wait on its completion queue
 abbrev pub waiting_of : Verbs → Queue → List Completion
-waiting_of v q = of_queue q (waiting_on v (home v.pairs q))
+waiting_of v q = of_queue q (waiting_on v (home v.device.pairs q))
 
 abbrev pub AccountOf : Verbs → Queue → List Item → List Completion → List Completion → Type 0
-AccountOf v q posted published polled = Account (v.queues q).posted (v.queues q).taken (owed_of v q) (waiting_of v q) posted published polled
+AccountOf v q posted published polled = Account (v.posted q) (v.device.taken q) (owed_of v q) (waiting_of v q) posted published polled
 
 -- equal parts have equal accounts
 moved : {requests requests' : List Item} {taken taken' : ℕ} {owed owed' waiting waiting' : List Completion} {posted : List Item} {published polled : List Completion} → requests' ≡ requests → taken' ≡ taken → owed' ≡ owed → waiting' ≡ waiting
@@ -51,75 +51,67 @@ moved {requests} {requests'} {taken} {taken'} {owed} {owed'} {waiting} {waiting'
     (subst (λ w. Account requests taken owed w posted published polled) (sym ws) a)))
 
 module _ (v : Verbs) (q : Queue) (posted : List Item) (published polled : List Completion) where
-  abbrev u : WorkQueue
-  u = v.queues q
-
   abbrev Before : Type 0
   Before = AccountOf v q posted published polled
 
   nothing_said : Before → AccountOf v q (posted ++ []) (published ++ []) (polled ++ [])
-  nothing_said a = quiet u.posted u.taken (owed_of v q) (waiting_of v q) posted published polled a
+  nothing_said a = quiet (v.posted q) (v.device.taken q) (owed_of v q) (waiting_of v q) posted published polled a
 
   after_post : (queue : Queue) (items : List Item) → Before → AccountOf (after v (Post queue items)) q (posted ++ posts_on q (Post queue items)) (published ++ []) (polled ++ [])
   after_post queue items a =
-      let grows = post_grows v.queues queue items q in
-      moved grows.posted grows.taken refl refl (posts_more u.posted u.taken (owed_of v q) (waiting_of v q) posted published polled (posts_on q (Post queue items)) a)
+      moved (post_grows v.posted queue items q) refl refl refl (posts_more (v.posted q) (v.device.taken q) (owed_of v q) (waiting_of v q) posted published polled (posts_on q (Post queue items)) a)
 
   after_retire : (queue : Queue) (count : ℕ) → Before → AccountOf (after v (Retire queue count)) q (posted ++ []) (published ++ []) (polled ++ [])
-  after_retire queue count a =
-      let stays = put_stays v.queues queue (retire (v.queues queue) count) (record { posted = refl; taken = refl }) q in
-      moved stays.posted stays.taken refl refl (nothing_said a)
+  after_retire queue count a = nothing_said a
 
   after_ack : (cq index : ℕ) → Before → AccountOf (after v (Ack cq index)) q (posted ++ []) (published ++ []) (polled ++ [])
-  after_ack cq index a = moved refl refl refl (ap (of_queue q) (ack_keeps v cq index (home v.pairs q))) (nothing_said a)
+  after_ack cq index a = nothing_said a
 
   after_poll : (actor cq most : ℕ) (xs : List Completion) → MayStep v (record { actor = actor; what = Poll cq most xs }) → Homed v → Before → AccountOf (poll v cq xs) q (posted ++ []) (published ++ []) (polled ++ of_queue q xs)
   after_poll actor cq most xs step h a =
-      let k = home v.pairs q in
+      let k = home v.device.pairs q in
       let next : Verbs = poll v cq xs in
       let mine : List Completion = if k == cq then xs else [] in
-      let own : of_queue q mine ≡ of_queue q xs = own_alone v.pairs q cq xs (polled_home v actor cq most xs step h) in
+      let own : of_queue q mine ≡ of_queue q xs = own_alone v.device.pairs q cq xs (polled_home v actor cq most xs step h) in
       let split : waiting_of v q ≡ of_queue q xs ++ waiting_of next q =
       ap (of_queue q) (poll_takes v actor cq most xs step k)
       ∙ (filter-append (λ (x : Completion). same_queue q x.queue) mine (waiting_on next k) ∙ ap (λ ys. ys ++ waiting_of next q) own) in
-      let stays = ends_stay v.queues xs (v.completions cq).unpolled q in
-      moved stays.posted stays.taken refl refl
-      (polls_some u.posted u.taken (owed_of v q) (waiting_of next q) posted published polled (of_queue q xs) (moved refl refl refl (sym split) a))
+      (polls_some (v.posted q) (v.device.taken q) (owed_of v q) (waiting_of next q) posted published polled (of_queue q xs) (moved refl refl refl (sym split) a))
 
-  after_publish : (actor cq : ℕ) (x : Completion) → MayPublish v actor cq x → Homed v → Before → AccountOf (publish v cq v.owed) q (posted ++ []) (published ++ of_queue q (x ∷ [])) (polled ++ [])
+  after_publish : (actor cq : ℕ) (x : Completion) → MayPublish v actor cq x → Homed v → Before → AccountOf (publish v cq v.device.owed) q (posted ++ []) (published ++ of_queue q (x ∷ [])) (polled ++ [])
   after_publish actor cq x may h a =
-      let k = home v.pairs q in
+      let k = home v.device.pairs q in
       let y : Completion = may.first.completion in
       let test : Completion → Bool = λ (z : Completion). same_queue q z.queue in
       let others : List Completion = of_queue q (map owed_completion may.others) in
       let mine : List Completion = if k == cq then y ∷ [] else [] in
-      let own : of_queue q mine ≡ of_queue q (y ∷ []) = own_alone v.pairs q cq (y ∷ []) ((published_home v actor cq x may h).0, tt) in
+      let own : of_queue q mine ≡ of_queue q (y ∷ []) = own_alone v.device.pairs q cq (y ∷ []) ((published_home v actor cq x may h).0, tt) in
       let owes : owed_of v q ≡ of_queue q (y ∷ []) ++ others = ap (λ acts. of_queue q (map owed_completion acts)) may.owed ∙ filter-append test (y ∷ []) (map owed_completion may.others) in
       let waits : waiting_of (publish v cq (Complete cq may.first ∷ may.others)) q ≡ waiting_of v q ++ of_queue q (y ∷ []) =
       ap (of_queue q) (owed_adds v cq may.first may.others k) ∙ (filter-append test (waiting_on v k) mine ∙ ap (λ ys. waiting_of v q ++ ys) own) in
       let wrote : AccountOf (publish v cq (Complete cq may.first ∷ may.others)) q (posted ++ []) (published ++ of_queue q (y ∷ [])) (polled ++ []) =
-      moved refl refl refl waits (writes u.posted u.taken others (waiting_of v q) posted published polled (of_queue q (y ∷ [])) (moved refl refl (sym owes) refl a)) in
+      moved refl refl refl waits (writes (v.posted q) (v.device.taken q) others (waiting_of v q) posted published polled (of_queue q (y ∷ [])) (moved refl refl (sym owes) refl a)) in
       subst (λ acts. AccountOf (publish v cq acts) q (posted ++ []) (published ++ of_queue q (x ∷ [])) (polled ++ [])) (sym may.owed)
       (subst (λ z. AccountOf (publish v cq (Complete cq may.first ∷ may.others)) q (posted ++ []) (published ++ of_queue q (z ∷ [])) (polled ++ [])) (sym may.content) wrote)
 
   fetch_other : (actor qp number : ℕ) → MayFetch v actor (Send qp) number → same_queue q (Send qp) ≡ false → Before → AccountOf (fetch v (Send qp) number) q posted published polled
   fetch_other actor qp number may other a =
-      let beside : put same_queue v.queues (Send qp) (take (v.queues (Send qp)) number) q ≡ v.queues q = put_beside same_queue v.queues (Send qp) (take (v.queues (Send qp)) number) q other in
+      let beside : put same_queue v.device.taken (Send qp) number q ≡ v.device.taken q = put_beside same_queue v.device.taken (Send qp) number q other in
       let idle : owed_of v q ≡ [] = ap (λ acts. of_queue q (map owed_completion acts)) may.idle in
-      let none = acts_of_others (v.pairs qp) qp number (slice_get (v.queues (Send qp)).posted (number - 1)) q other in
-      moved (ap (λ (w : WorkQueue). w.posted) beside) (ap (λ (w : WorkQueue). w.taken) beside) (none ∙ sym idle) refl a
+      let none = acts_of_others (v.device.pairs qp) qp number (slice_get (v.posted (Send qp)) (number - 1)) q other in
+      moved refl beside (none ∙ sym idle) refl a
 
 module _ (v : Verbs) (posted : List Item) (published polled : List Completion) where
   fetch_own : (actor qp number : ℕ) → MayFetch v actor (Send qp) number → AccountOf v (Send qp) posted published polled → AccountOf (fetch v (Send qp) number) (Send qp) posted published polled
   fetch_own actor qp number may a =
-      let w = v.queues (Send qp) in
-      let changed : put same_queue v.queues (Send qp) (take w number) (Send qp) ≡ take w number = put_at same_queue v.queues (Send qp) (take w number) (Send qp) (same_queue_refl (Send qp)) in
-      let doable = can_do-true (slice_get w.posted (number - 1)) (and_parts _ _ may.content).1 in
+      let requests = v.posted (Send qp) in
+      let changed : put same_queue v.device.taken (Send qp) number (Send qp) ≡ number = put_at same_queue v.device.taken (Send qp) number (Send qp) (same_queue_refl (Send qp)) in
+      let doable = can_do-true (slice_get requests (number - 1)) (and_parts _ _ may.content).1 in
       let idle : owed_of v (Send qp) ≡ [] = ap (λ acts. of_queue (Send qp) (map owed_completion acts)) may.idle in
-      let xs : List Completion = of_queue (Send qp) (map owed_completion (acts_of (v.pairs qp) qp number (Some (TheRequest doable.0)))) in
-      moved (ap (λ (x : WorkQueue). x.posted) changed) (ap (λ (x : WorkQueue). x.taken) changed)
-      (ap (λ o. of_queue (Send qp) (map owed_completion (acts_of (v.pairs qp) qp number o))) doable.1) refl
-      (takes_next w.posted w.taken (owed_of v (Send qp)) (waiting_of v (Send qp)) posted published polled number (TheRequest doable.0) xs idle may.next doable.1 (acts_answer (v.pairs qp) qp number doable.0) a)
+      let xs : List Completion = of_queue (Send qp) (map owed_completion (acts_of (v.device.pairs qp) qp number (Some (TheRequest doable.0)))) in
+      moved refl changed
+      (ap (λ o. of_queue (Send qp) (map owed_completion (acts_of (v.device.pairs qp) qp number o))) doable.1) refl
+      (takes_next requests (v.device.taken (Send qp)) (owed_of v (Send qp)) (waiting_of v (Send qp)) posted published polled number (TheRequest doable.0) xs idle may.next doable.1 (acts_answer (v.device.pairs qp) qp number doable.0) a)
 
   fetched : (q : Queue) (actor qp number : ℕ) → MayFetch v actor (Send qp) number → AccountOf v q posted published polled → AccountOf (fetch v (Send qp) number) q posted published polled
   fetched q actor qp number may a =
@@ -174,20 +166,15 @@ module _ (q : Queue) where
 
 -- where a run begins
 
-fresh : (d : Lines) (P : WorkQueue → Type 0) → ((log segments : ℕ) → P (fresh_queue log segments)) → P no_queue → (q : Queue) → P ((start d).queues q)
-fresh d P each nothing (Send qp) = for_line_all P FIRST_QP d.qps (λ (l : QpLine). fresh_queue l.send_log l.segments) no_queue qp (λ l. each l.send_log l.segments) nothing
-fresh d P each nothing (Recv qp) = for_line_all P FIRST_QP d.qps (λ (l : QpLine). fresh_queue l.recv_log l.segments) no_queue qp (λ l. each l.recv_log l.segments) nothing
-fresh d P each nothing (Shared srq) = nothing
-
 homed_first : (d : Lines) → Homed (start d)
-homed_first d = record { waiting = λ cq. subst (AllByRecursion (IsAt (start d).pairs cq)) (sym (none_waits d cq)) tt; hand = tt }
+homed_first d = record { waiting = λ cq. subst (AllByRecursion (IsAt (start d).device.pairs cq)) (sym (none_waits d cq)) tt; hand = tt }
 
 account_first : (d : Lines) (q : Queue) → AccountOf (start d) q [] [] []
 account_first d q =
-    let none : waiting_of (start d) q ≡ [] = ap (of_queue q) (none_waits d (home (start d).pairs q)) in
+    let none : waiting_of (start d) q ≡ [] = ap (of_queue q) (none_waits d (home (start d).device.pairs q)) in
     moved
-    (fresh d (λ (u : WorkQueue). u.posted ≡ []) (λ log segments. refl) refl q)
-    (fresh d (λ (u : WorkQueue). u.taken ≡ 0) (λ log segments. refl) refl q)
+    refl
+    refl
     refl
     none
     (record { posts = refl; reached = omega arith; answered = tt; balanced = refl })
@@ -199,16 +186,16 @@ module _ (d : Lines) (history : List Entry) (q : Queue) (legal : IsLegal (start 
 pub ids_come_back : IdsComeBack
 ids_come_back d history q legal =
     let v : Verbs = fold after_entry (start d) history in
-    in_order (v.queues q).posted (v.queues q).taken (owed_of v q) (waiting_of v q) (posted_on q history) (published_of q history) (polled_of q history) (account_last d history q legal)
+    in_order (v.posted q) (v.device.taken q) (owed_of v q) (waiting_of v q) (posted_on q history) (published_of q history) (polled_of q history) (account_last d history q legal)
 
 pub none_is_forgotten : NoneIsForgotten
 none_is_forgotten d history q legal =
     let v : Verbs = fold after_entry (start d) history in
-    all_answered (v.queues q).posted (v.queues q).taken (owed_of v q) (waiting_of v q) (posted_on q history) (published_of q history) (polled_of q history) (account_last d history q legal)
+    all_answered (v.posted q) (v.device.taken q) (owed_of v q) (waiting_of v q) (posted_on q history) (published_of q history) (polled_of q history) (account_last d history q legal)
 
 pub all_come_back : AllComeBack
 all_come_back d history q legal rest =
     let v : Verbs = fold after_entry (start d) history in
     let owed : owed_of v q ≡ [] = ap (λ acts. of_queue q (map owed_completion acts)) rest.nothing_owed in
-    let waiting : waiting_of v q ≡ [] = ap (of_queue q) (rest.nothing_waits (home v.pairs q)) in
-    at_rest (v.queues q).posted (v.queues q).taken (owed_of v q) (waiting_of v q) (posted_on q history) (published_of q history) (polled_of q history) owed waiting rest.taken (account_last d history q legal)
+    let waiting : waiting_of v q ≡ [] = ap (of_queue q) (rest.nothing_waits (home v.device.pairs q)) in
+    at_rest (v.posted q) (v.device.taken q) (owed_of v q) (waiting_of v q) (posted_on q history) (published_of q history) (polled_of q history) owed waiting rest.taken (account_last d history q legal)

@@ -13,53 +13,20 @@ use Rattle.verbs_types.specs.declared.state.Act.TheVariants.{Complete}
 use Rattle.verbs_types.specs.declared.state.QueuePair.{QueuePair}
 use Rattle.verbs_types.specs.declared.state.Unpolled.{Unpolled}
 use Rattle.verbs_rules.specs.Family.{put}
-use Rattle.verbs_rules.specs.Rows.{acts_of, can_do, end, end_all, nop_completion, post, status_of}
+use Rattle.verbs_rules.specs.Rows.{acts_of, can_do, nop_completion, status_of}
 use Rattle.verbs_rules.specs.Same.{same_queue}
-use Rattle.verbs_rules.specs.State.{WorkQueue}
 use Rattle.verbs_laws.proofs.Sameness.{same_queue-true, same_queue_refl}
 use Rattle.history_laws.specs.Answer.{AnswerAll, wants}
 use Rattle.history_laws.specs.Laws.{owed_completion}
 use Rattle.history_laws.specs.Said.{of_queue}
 
--- the same requests, but for these more, of which as many were taken
-pub record Grows (u next : WorkQueue) (items : List Item) : Type 0 where
-  pub posted : next.posted ≡ u.posted ++ items
-  pub taken : next.taken ≡ u.taken
-
-pub record Stays (u next : WorkQueue) : Type 0 where
-  pub posted : next.posted ≡ u.posted
-  pub taken : next.taken ≡ u.taken
-
--- what holds of the changed queue and of the others
-put_any : (P : Queue → WorkQueue → Type 0) (f : Queue → WorkQueue) (queue : Queue) (u : WorkQueue) → P queue u → ((q : Queue) → same_queue q queue ≡ false → P q (f q)) → (q : Queue) → P q (put same_queue f queue u q)
-put_any P f queue u changed others q = by (same_queue q queue) refl
+-- the requests of a queue after a post on any queue: some more, or those that it had
+pub post_grows : (f : Queue → List Item) (queue : Queue) (items : List Item) (q : Queue) → put same_queue f queue (f queue ++ items) q ≡ f q ++ (if same_queue q queue then items else [])
+post_grows f queue items q = by (same_queue q queue) refl
   where
-    by : (b : Bool) → same_queue q queue ≡ b → P q (if b then u else f q)
-    by true e = subst (λ k. P k u) (sym (same_queue-true q queue e)) changed
-    by false e = others q e
-
-pub post_grows : (f : Queue → WorkQueue) (queue : Queue) (items : List Item) (q : Queue) → Grows (f q) (put same_queue f queue (post (f queue) items) q) (if same_queue q queue then items else [])
-post_grows f queue items q =
-    put_any
-    (λ k u. Grows (f k) u (if same_queue k queue then items else []))
-    f
-    queue
-    (post (f queue) items)
-    (record { posted = ap (λ more. (f queue).posted ++ more) (sym (cond-true (same_queue queue queue) items [] (same_queue_refl queue))); taken = refl })
-    (λ k other. record { posted = sym (append-nil (f k).posted) ∙ ap (λ more. (f k).posted ++ more) (sym (cond-false (same_queue k queue) items [] other)); taken = refl })
-    q
-
-pub put_stays : (f : Queue → WorkQueue) (queue : Queue) (u : WorkQueue) → Stays (f queue) u → (q : Queue) → Stays (f q) (put same_queue f queue u q)
-put_stays f queue u same q = put_any (λ k next. Stays (f k) next) f queue u same (λ k other. record { posted = refl; taken = refl }) q
-
-pub ends_stay : (f : Queue → WorkQueue) (xs : List Completion) (us : List Unpolled) (q : Queue) → Stays (f q) (end_all f xs us q)
-ends_stay f [] us q = record { posted = refl; taken = refl }
-ends_stay f (x ∷ xs) [] q = record { posted = refl; taken = refl }
-ends_stay f (x ∷ xs) (u ∷ us) q =
-    let ended : WorkQueue = end (f x.queue) u.number in
-    let first = put_stays f x.queue ended (record { posted = refl; taken = refl }) q in
-    let rest = ends_stay (put same_queue f x.queue ended) xs us q in
-    record { posted = rest.posted ∙ first.posted; taken = rest.taken ∙ first.taken }
+    by : (b : Bool) → same_queue q queue ≡ b → (if b then f queue ++ items else f q) ≡ f q ++ (if b then items else [])
+    by true e = ap (λ k. f k ++ items) (sym (same_queue-true q queue e))
+    by false e = sym (append-nil (f q))
 
 pub can_do-true : (o : Option Item) → can_do o ≡ true → (r : Request) × (o ≡ Some (TheRequest r))
 can_do-true None h = absurd (false≢true h)

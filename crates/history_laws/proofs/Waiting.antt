@@ -8,12 +8,12 @@ use Rattle.verbs_types.specs.declared.entry.What.TheVariants.{Poll}
 use Rattle.verbs_types.specs.declared.state.Act.{Act}
 use Rattle.verbs_types.specs.declared.state.Act.TheVariants.{Complete}
 use Rattle.verbs_types.specs.declared.state.Unpolled.{Unpolled}
-use Rattle.verbs_rules.specs.Rows.{poll, publish, with_completions}
+use Rattle.verbs_rules.specs.Rows.{poll, publish}
 use Rattle.verbs_rules.specs.Rules.{objects_live}
 use Rattle.verbs_rules.specs.Same.{is_front}
-use Rattle.verbs_rules.specs.State.{CompletionQueue, Verbs}
+use Rattle.verbs_rules.specs.State.{Verbs}
 use Rattle.verbs_rules.specs.Step.{MayStep}
-use Rattle.verbs_laws.proofs.Choices.{put_completions, differs}
+use Rattle.verbs_laws.proofs.Choices.{put_one, differs}
 use Rattle.verbs_laws.proofs.Failing.{passed}
 use Rattle.verbs_laws.proofs.Facts.{MayPoll_by_step, MayPublish}
 use Rattle.verbs_laws.proofs.Sameness.{same_completion-true, front_is_front}
@@ -40,43 +40,37 @@ front_splits (x ∷ xs) (u ∷ us) h =
     let rest = front_splits xs us parts.1 in
     λ i. sym first i ∷ rest i
 
-pub polled_front : (v : Verbs) (actor cq most : ℕ) (xs : List Completion) → MayStep v (record { actor = actor; what = Poll cq most xs }) → is_front xs (v.completions cq).unpolled ≡ true
+pub polled_front : (v : Verbs) (actor cq most : ℕ) (xs : List Completion) → MayStep v (record { actor = actor; what = Poll cq most xs }) → is_front xs (v.unpolled cq) ≡ true
 polled_front v actor cq most xs step =
     let may = MayPoll_by_step v actor cq most xs step in
-    rw may.front (front_is_front (v.completions cq).unpolled most)
+    rw may.front (front_is_front (v.unpolled cq) most)
 
 -- a poll takes the oldest
 pub poll_takes : (v : Verbs) (actor cq most : ℕ) (xs : List Completion) → MayStep v (record { actor = actor; what = Poll cq most xs }) → (k : ℕ) → waiting_on v k ≡ (if k == cq then xs else []) ++ waiting_on (poll v cq xs) k
 poll_takes v actor cq most xs step k =
-    let later : CompletionQueue = record (v.completions cq) { unpolled = drop (length xs) (v.completions cq).unpolled } in
-    put_completions
-    (λ (i : ℕ) (c : CompletionQueue). waiting_on v i ≡ (if i == cq then xs else []) ++ map completion_of c.unpolled)
-    v.completions
+    put_one
+    (λ (i : ℕ) (us : List Unpolled). waiting_on v i ≡ (if i == cq then xs else []) ++ map completion_of us)
+    v.unpolled
     cq
-    later
-    (front_splits xs (v.completions cq).unpolled (polled_front v actor cq most xs step) ∙ ap (λ (ys : List Completion). ys ++ map completion_of later.unpolled) (sym (here cq cq xs refl)))
+    (drop (length xs) (v.unpolled cq))
+    (front_splits xs (v.unpolled cq) (polled_front v actor cq most xs step) ∙ ap (λ (ys : List Completion). ys ++ map completion_of (drop (length xs) (v.unpolled cq))) (sym (here cq cq xs refl)))
     (λ i apart. ap (λ (ys : List Completion). ys ++ waiting_on v i) (sym (elsewhere i cq xs apart)))
     k
 
 -- a publication adds the newest
 pub owed_adds : (v : Verbs) (cq : ℕ) (u : Unpolled) (others : List Act) (k : ℕ) → waiting_on (publish v cq (Complete cq u ∷ others)) k ≡ waiting_on v k ++ (if k == cq then u.completion ∷ [] else [])
 owed_adds v cq u others k =
-    let before = v.completions cq in
     let x = u.completion in
-    put_completions
-    (λ (i : ℕ) (c : CompletionQueue). map completion_of c.unpolled ≡ waiting_on v i ++ (if i == cq then x ∷ [] else []))
-    v.completions
+    put_one
+    (λ (i : ℕ) (us : List Unpolled). map completion_of us ≡ waiting_on v i ++ (if i == cq then x ∷ [] else []))
+    v.unpolled
     cq
-    (record before { produced = before.produced + 1; unpolled = before.unpolled ++ u ∷ [] })
-    (map-append completion_of before.unpolled (u ∷ []) ∙ ap (λ (ys : List Completion). waiting_on v cq ++ ys) (sym (here cq cq (x ∷ []) refl)))
+    (v.unpolled cq ++ u ∷ [])
+    (map-append completion_of (v.unpolled cq) (u ∷ []) ∙ ap (λ (ys : List Completion). waiting_on v cq ++ ys) (sym (here cq cq (x ∷ []) refl)))
     (λ i apart. sym (append-nil (waiting_on v i)) ∙ ap (λ (ys : List Completion). waiting_on v i ++ ys) (sym (elsewhere i cq (x ∷ []) apart)))
     k
 
-pub publish_adds : (v : Verbs) (actor cq : ℕ) (x : Completion) → MayPublish v actor cq x → (k : ℕ) → waiting_on (publish v cq v.owed) k ≡ waiting_on v k ++ (if k == cq then x ∷ [] else [])
+pub publish_adds : (v : Verbs) (actor cq : ℕ) (x : Completion) → MayPublish v actor cq x → (k : ℕ) → waiting_on (publish v cq v.device.owed) k ≡ waiting_on v k ++ (if k == cq then x ∷ [] else [])
 publish_adds v actor cq x may k =
     ap (λ (acts : List Act). waiting_on (publish v cq acts) k) may.owed
     ∙ (owed_adds v cq may.first may.others k ∙ ap (λ (y : Completion). waiting_on v k ++ (if k == cq then y ∷ [] else [])) (sym may.content))
-
--- to acknowledge takes nothing
-pub ack_keeps : (v : Verbs) (cq index k : ℕ) → waiting_on (with_completions v cq (record (v.completions cq) { acked = index })) k ≡ waiting_on v k
-ack_keeps v cq index k = put_completions (λ (i : ℕ) (c : CompletionQueue). map completion_of c.unpolled ≡ waiting_on v i) v.completions cq (record (v.completions cq) { acked = index }) refl (λ i apart. refl) k

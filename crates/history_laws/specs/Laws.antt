@@ -28,11 +28,11 @@ owed_completion (Complete cq u) = u.completion
 
 -- the completions of a completion queue that no poll took, the oldest first
 abbrev pub waiting_on : Verbs → ℕ → List Completion
-waiting_on v cq = map completion_of (v.completions cq).unpolled
+waiting_on v cq = map completion_of (v.unpolled cq)
 
 -- the completions of a work queue's requests that the adapter still owes
 abbrev pub owed_of : Verbs → Queue → List Completion
-owed_of v queue = of_queue queue (map owed_completion v.owed)
+owed_of v queue = of_queue queue (map owed_completion v.device.owed)
 
 -- The completions of a work queue's requests that polls took answer, in order, requests that were posted on it: each has its request's id, none is doubled, and none overtakes another.
 abbrev pub IdsComeBack : Type 0
@@ -52,12 +52,12 @@ NoneIsLost = (d : Lines) (history : List Entry) (cq : ℕ) → IsLegal (start d)
 abbrev pub NoneIsForgotten : Type 0
 NoneIsForgotten =
     (d : Lines) (history : List Entry) (queue : Queue) → IsLegal (start d) history
-    → AnswerAll (published_of queue history ++ owed_of (state_after d history) queue) (take ((state_after d history).queues queue).taken (posted_on queue history))
+    → AnswerAll (published_of queue history ++ owed_of (state_after d history) queue) (take ((state_after d history).device.taken queue) (posted_on queue history))
 
 -- the adapter took all that was posted on the work queue and owes nothing, and no completion waits
 pub record IsAtRest (v : Verbs) (queue : Queue) : Type 0 where
-  pub taken : (v.queues queue).taken ≡ length (v.queues queue).posted
-  pub nothing_owed : v.owed ≡ []
+  pub taken : (v.device.taken queue) ≡ length (v.posted queue)
+  pub nothing_owed : v.device.owed ≡ []
   pub nothing_waits : (cq : ℕ) → waiting_on v cq ≡ []
 
 -- Of a work queue at rest, polls took the completion of every request that wants one, and of each just once.
