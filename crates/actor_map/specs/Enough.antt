@@ -15,13 +15,13 @@ made_by actor what = record { actor = actor; what = what }
 
 pub record IsEnough (v : Verbs) (note : Note) (actor : ℕ) : Type 0 where
   -- the queue has room for the list
-  pub post : (queue : Queue) (items : List Item) → Fits v note (made_by actor (Post queue items)) → length (v.queues queue).posted + length items - (v.queues queue).retired ≤ (v.queues queue).room
+  pub post : (queue : Queue) (items : List Item) → Fits v note (made_by actor (Post queue items)) → length (v.posted queue) + length items - (v.settled queue).retired ≤ (v.limits.room queue)
   -- the tail that was seen is that of the state
-  pub full : (queue : Queue) (pending head tail : ℕ) → Fits v note (made_by actor (PostFull queue pending head tail)) → note.c ≡ (v.queues queue).retired
+  pub full : (queue : Queue) (pending head tail : ℕ) → Fits v note (made_by actor (PostFull queue pending head tail)) → note.c ≡ (v.settled queue).retired
   -- the request was posted
-  pub fetch : (queue : Queue) (number : ℕ) → Fits v note (made_by actor (Fetch queue number)) → number ≤ length (v.queues queue).posted
+  pub fetch : (queue : Queue) (number : ℕ) → Fits v note (made_by actor (Fetch queue number)) → number ≤ length (v.posted queue)
   -- the completion queue has room for one more
-  pub publish : (cq : ℕ) (completion : Completion) → Fits v note (made_by actor (Publish cq completion)) → (v.completions cq).produced - (v.completions cq).acked < (v.completions cq).size
+  pub publish : (cq : ℕ) (completion : Completion) → Fits v note (made_by actor (Publish cq completion)) → (v.device.produced cq) - (v.acked cq) < (v.limits.size cq)
 
 -- for every state, note and actor
 abbrev pub AreEnough : Type 0

@@ -7,7 +7,8 @@ use Rattle.verbs_types.specs.declared.entry.Entry.{Entry}
 use Rattle.verbs_types.specs.declared.entry.What.{What}
 use Rattle.verbs_types.specs.declared.entry.What.TheVariants.{Post, PostFull, Poll, Retire, Ack, Fetch, Publish}
 use Rattle.verbs_rules.specs.Rules.{objects_live}
-use Rattle.verbs_rules.specs.State.{WorkQueue, CompletionQueue, Verbs}
+use Rattle.verbs_rules.specs.State.{Verbs}
+use Rattle.verbs_rules.specs.OfOne.{WorkQueue, CompletionQueue, queue_in, completions_in}
 use Rattle.actor_map.specs.declared.note.TheConstants.{POST, POST_FULL, POLL, RETIRE, ACK, FETCH, PUBLISH}
 
 -- the number of a work queue in a note, which tells the queue
@@ -53,13 +54,13 @@ pub record LeavesPlace (c : CompletionQueue) (seen : ℕ) : Type 0 where
 
 -- The count that was seen serves for the entry. A full queue and a short poll are told only by the very count of the state; for the others a count that other actors have passed meanwhile serves too. None serves for an entry that is not built.
 abbrev pub Serves : Verbs → What → ℕ → Type 0
-Serves v (Post queue items) seen = LeavesRoom (v.queues queue) (length items) seen
-Serves v (PostFull queue pending head tail) seen = seen ≡ (v.queues queue).retired
-Serves v (Poll cq most completions) seen = MatchBool (length completions == most) (ShowsTaken (v.completions cq) (length completions) seen) (seen ≡ (v.completions cq).produced)
+Serves v (Post queue items) seen = LeavesRoom (queue_in v queue) (length items) seen
+Serves v (PostFull queue pending head tail) seen = seen ≡ (v.settled queue).retired
+Serves v (Poll cq most completions) seen = MatchBool (length completions == most) (ShowsTaken (completions_in v cq) (length completions) seen) (seen ≡ (v.device.produced cq))
 Serves v (Retire queue count) seen = Unit {0}
 Serves v (Ack cq index) seen = Unit {0}
-Serves v (Fetch queue number) seen = ShowsPosted (v.queues queue) number seen
-Serves v (Publish cq completion) seen = LeavesPlace (v.completions cq) seen
+Serves v (Fetch queue number) seen = ShowsPosted (queue_in v queue) number seen
+Serves v (Publish cq completion) seen = LeavesPlace (completions_in v cq) seen
 Serves v _ seen = ⊥
 
 -- The note is one of the entry, whose objects live, and what it says to have seen serves.

@@ -15,14 +15,14 @@ pub record Owes (d : Lines) (l : Lists) (v : Verbs) (s : AdapterRule) (cq : ℕ)
   pub lives : Lives d (Sends s.visit)
   pub queue : cq ≡ send_cq d s.visit
   pub unpolled : Unpolled
-  pub owed : v.owed ≡ Complete cq unpolled ∷ []
+  pub owed : v.device.owed ≡ Complete cq unpolled ∷ []
   pub spells : IsCompletion l c unpolled
   pub pair : unpolled.completion.qp ≡ s.visit
   pub number : unpolled.number ≡ s.taken s.visit
 
 pub record Visits (d : Lines) (v : Verbs) (qp : ℕ) : Type 0 where
   pub lives : Lives d (Sends qp)
-  pub idle : v.owed ≡ []
+  pub idle : v.device.owed ≡ []
 
 -- a pair that may send has an entry that the record showed
 pub record Reads (d : Lines) (v : Verbs) (s : AdapterRule) : Type 0 where
@@ -35,4 +35,4 @@ AdapterStandsAt d l v s Looking = Visits d v s.visit
 AdapterStandsAt d l v s Recording = Visits d v s.visit
 AdapterStandsAt d l v s Reading = Reads d v s
 AdapterStandsAt d l v s (Publishing cq c) = Owes d l v s cq c
-AdapterStandsAt d l v s Ending = v.owed ≡ []
+AdapterStandsAt d l v s Ending = v.device.owed ≡ []

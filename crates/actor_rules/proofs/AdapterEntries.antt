@@ -51,11 +51,11 @@ posted_by d qp items n request (TheRequest r) there is = record { of = r; there 
 posted_by d qp items n request (TheReceive r) there is = absurd is
 
 -- one that the record shows was posted
-pub posted_at : (d : Lines) (programs : List (List Call)) (w : Actors) (v : Verbs) (q : counted.Queue) (qp n : ℕ) (request : counted.Request) → QueueStands d programs w v q (Send qp) → n < q.rung → slice_get q.requests n ≡ Some request → IsPosted d qp (v.queues (Send qp)).posted n request
+pub posted_at : (d : Lines) (programs : List (List Call)) (w : Actors) (v : Verbs) (q : counted.Queue) (qp n : ℕ) (request : counted.Request) → QueueStands d programs w v q (Send qp) → n < q.rung → slice_get q.requests n ≡ Some request → IsPosted d qp (v.posted (Send qp)) n request
 posted_at d programs w v q qp n request h rung found =
-    let at = match_at (IsItem d (Send qp)) n q.requests ((v.queues (Send qp)).posted ++ written programs w (Send qp)) request h.posted found in
-    let low : n < length (v.queues (Send qp)).posted = omega (arith, rung, h.rung) in
-    posted_by d qp (v.queues (Send qp)).posted n request at.0 (front_item (v.queues (Send qp)).posted (written programs w (Send qp)) n at.0 low at.1) at.2
+    let at = match_at (IsItem d (Send qp)) n q.requests ((v.posted (Send qp)) ++ written programs w (Send qp)) request h.posted found in
+    let low : n < length (v.posted (Send qp)) = omega (arith, rung, h.rung) in
+    posted_by d qp (v.posted (Send qp)) n request at.0 (front_item (v.posted (Send qp)) (written programs w (Send qp)) n at.0 low at.1) at.2
 
 -- its words want a completion where it does
 pub wants_posted : (d : Lines) (qp : ℕ) (items : List Item) (n : ℕ) (request : counted.Request) (h : IsPosted d qp items n request) → h.of.op ≡ Nop → wants request.words ≡ h.of.wanted

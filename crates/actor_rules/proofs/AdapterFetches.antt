@@ -17,10 +17,10 @@ use Rattle.verbs_types.specs.declared.state.QueuePair.{QueuePair}
 use Rattle.verbs_types.specs.declared.state.Unpolled.{Unpolled}
 use Rattle.verbs_rules.specs.Answered.{Due}
 use Rattle.verbs_rules.specs.Family.{put}
-use Rattle.verbs_rules.specs.Rows as rows
 use Rattle.verbs_rules.specs.Rows.{nop_completion}
 use Rattle.verbs_rules.specs.Same.{same_queue}
-use Rattle.verbs_rules.specs.State.{Verbs, WorkQueue}
+use Rattle.verbs_rules.specs.State.{Verbs}
+use Rattle.verbs_rules.specs.OfOne.{WorkQueue, queue_in}
 use Rattle.verbs_rules.specs.Step.{after}
 use Rattle.counted_ring.specs.declared.place.WqPlace.{WqPlace}
 use Rattle.counted_ring.specs.Device.{WqReader}
@@ -36,7 +36,7 @@ use Rattle.device_engine.specs.Rows.{publish_or_next}
 use Rattle.device_engine.specs.State.{AdapterRule, Publishing, reader, send_cq, next_visit, working, with_reader, with_taken, put_number}
 use Rattle.actor_rules.specs.Actors.{Actors}
 use Rattle.actor_rules.proofs.View.{view}
-use Rattle.verbs_rules.specs.Sane as sane
+use Rattle.verbs_rules.specs.Within as within
 use Rattle.actor_rules.proofs.Adapter.{Reads}
 use Rattle.actor_rules.proofs.AdapterEntries.{IsPosted, posted_at, wants_posted, sends_rts, nop_at}
 use Rattle.actor_rules.proofs.AdapterKeeps.{with_adapter, finish, to_next}
@@ -50,7 +50,7 @@ use Rattle.actor_rules.proofs.Objects.{Lists, poll_side, poster_side, retirer_si
 use Rattle.actor_rules.proofs.PerQueue.{queue_here, queue_there, queue_cases, queue_cases₂}
 use Rattle.actor_rules.proofs.Queues.{QueueLives, QueueIs, QueueIn, QueueStands}
 use Rattle.actor_rules.proofs.Threading.{put_here, number_by}
-use Rattle.verbs_rules.specs.Sane.{Bounds}
+use Rattle.verbs_rules.specs.Within.{Bounds}
 
 module _ (d : Lines) (programs : List (List Call)) (total : Bounds) (map : IsMapped d) (m : Memory) (w : Actors) (v : Verbs) (dues : List (List Due)) (st : Stands d programs total m w v dues) where
   abbrev qp : ℕ
@@ -64,7 +64,7 @@ module _ (d : Lines) (programs : List (List Call)) (total : Bounds) (map : IsMap
   q = st.lists.queues (Send qp)
 
   abbrev u : WorkQueue
-  u = v.queues (Send qp)
+  u = queue_in v (Send qp)
 
   abbrev pub number : ℕ
   number = u.taken + 1
@@ -88,40 +88,37 @@ module _ (d : Lines) (programs : List (List Call)) (total : Bounds) (map : IsMap
     more : u.taken < length u.posted
     more = omega (arith, stands.taken, may.rung, stands.rung)
 
-    alive : v.pair_lives qp ≡ true
+    alive : v.device.pair_lives qp ≡ true
     alive = st.bare.sound.declared.pair_lives qp ∙ lives
 
-    sends : (v.pairs qp).state ≡ Rts
+    sends : (v.device.pairs qp).state ≡ Rts
     sends = ap (λ (p : QueuePair). p.state) (st.bare.sound.declared.pairs qp) ∙ sends_rts d qp reads.sends
 
-    pub goes : sane.Goes (length d.qps) total v 0 (Fetch (Send qp) number) dues
-    goes = fetch_goes (length d.qps) total v dues qp item st.bare.sound.sane alive sends reads.visits.idle posted.there more
+    pub goes : within.Goes (length d.qps) total v 0 (Fetch (Send qp) number) dues
+    goes = fetch_goes (length d.qps) total v dues qp item st.bare.sound.bounded alive sends reads.visits.idle posted.there more
 
     nop : item.op ≡ Nop
-    nop = nop_at u.posted u.taken item (st.bare.sound.sane.queues qp).nops posted.there
+    nop = nop_at u.posted u.taken item (st.bare.sound.bounded.within.queues qp).nops posted.there
 
     wanted : wants words ≡ item.wanted
     wanted = ap wants may.words_are ∙ wants_posted d qp u.posted u.taken may.request posted nop
 
     -- the queues after it, where these acts are owed
     abbrev now : List Act → Verbs
-    now acts = record v { queues = put same_queue v.queues (Send qp) (rows.take u number); owed = acts }
+    now acts = record v { device = record v.device { taken = put same_queue v.device.taken (Send qp) number; owed = acts } }
 
     abbrev lists : Lists
     lists = record { completions = st.lists.completions; queues = put same_queue st.lists.queues (Send qp) (after_event place q (Took words)) }
 
-    is_now : after v (Fetch (Send qp) number) ≡ now (owed_by (v.pairs qp) qp number item)
-    is_now = is_fetched (length d.qps) total v dues qp item st.bare.sound.sane alive sends reads.visits.idle posted.there more
-
-    now_here : (acts : List Act) → (now acts).queues (Send qp) ≡ rows.take u number
-    now_here acts = queue_here v.queues (Send qp) (rows.take u number)
+    is_now : after v (Fetch (Send qp) number) ≡ now (owed_by (v.device.pairs qp) qp number item)
+    is_now = is_fetched (length d.qps) total v dues qp item st.bare.sound.bounded alive sends reads.visits.idle posted.there more
 
     lists_here : lists.queues (Send qp) ≡ after_event place q (Took words)
     lists_here = queue_here st.lists.queues (Send qp) (after_event place q (Took words))
 
     -- one more is taken, in words and in the state, and every other queue is as before
     queues_now : (acts : List Act) (queue : Queue) → QueueLives d queue → QueueIn d (view programs w) (now acts) (lists.queues queue) queue
-    queues_now acts = queue_cases₂ (λ k x y. QueueLives d k → QueueIs d ((view programs w).written k) (w.posted k) x y k) v.queues st.lists.queues (Send qp) (rows.take u number) (after_event place q (Took words))
+    queues_now acts = queue_cases₂ (λ k taken y. QueueLives d k → QueueIs d ((view programs w).written k) (w.posted k) (record (queue_in v k) { taken = taken }) y k) v.device.taken st.lists.queues (Send qp) number (after_event place q (Took words))
         (λ alive_queue. record { posted = stands.posted; rung = stands.rung; taken = ap (λ (k : ℕ). k + 1) stands.taken; retired = stands.retired; room = stands.room; segments = stands.segments; told = stands.told })
         (λ k differ alive_queue. st.bare.state.queues k alive_queue)
 
@@ -130,33 +127,30 @@ module _ (d : Lines) (programs : List (List Call)) (total : Bounds) (map : IsMap
         let order = (st.bare.objects (Sends qp) lives).shape.order in
         queue_cases (λ k x. Grows (st.lists.queues k) x) st.lists.queues (Send qp) (after_event place q (Took words)) (grows_event place q (Took words) (omega (arith, order.taken, order.rung))) (λ k differ. grows_refl (st.lists.queues k)) (Send i)
 
-    ends_now : (acts : List Act) (i : ℕ) → ((now acts).queues (Send i)).ends ≡ (v.queues (Send i)).ends
-    ends_now acts i = queue_cases (λ k x. x.ends ≡ (v.queues k).ends) v.queues (Send qp) (rows.take u number) refl (λ k differ. refl) (Send i)
-
     completions_now : (acts : List Act) (cq : ℕ) → Lives d (Completions cq) → CompletionsStand d lists (poll_side programs w cq) ((view programs w).given cq) (now acts) cq
-    completions_now acts cq alive = completions_kept d st.lists lists grows_now (poll_side programs w cq) ((view programs w).given cq) v (now acts) cq refl refl (λ i live home. ends_now acts i) (st.bare.state.completions cq alive)
+    completions_now acts cq alive = completions_kept d st.lists lists grows_now (poll_side programs w cq) ((view programs w).given cq) v (now acts) cq refl refl (λ i live home. refl) (st.bare.state.completions cq alive)
 
     module _ (e : BusEntry) (r : WqReader) (inside : requests_place.touches place e.addr ≡ true)
         (tied : requests.Tied place (after_entry m e) (poster_side programs w (Send qp)) (retirer_side d programs w qp) r (after_event place q (Took words))) where
       abbrev pub rule : AdapterRule
       rule = with_taken (with_reader r w.adapter)
 
-      taken_now : (acts : List Act) (n : ℕ) → Lives d (Sends n) → rule.taken n ≡ ((now acts).queues (Send n)).taken
-      taken_now acts = number_by (λ n b. Lives d (Sends n) → (if b then w.adapter.taken qp + 1 else w.adapter.taken n) ≡ (if b then rows.take u number else v.queues (Send n)).taken) qp (λ alive. ap (λ (k : ℕ). k + 1) (st.bare.state.taken qp alive)) (λ n differ alive. st.bare.state.taken n alive)
+      taken_now : (acts : List Act) (n : ℕ) → Lives d (Sends n) → rule.taken n ≡ (now acts).device.taken (Send n)
+      taken_now acts = number_by (λ n b. Lives d (Sends n) → (if b then w.adapter.taken qp + 1 else w.adapter.taken n) ≡ (if b then number else v.device.taken (Send n))) qp (λ alive. ap (λ (k : ℕ). k + 1) (st.bare.state.taken qp alive)) (λ n differ alive. st.bare.state.taken n alive)
 
-      abbrev was : AsDeclared d v
+      abbrev was : AsDeclared d v.device
       was = st.bare.sound.declared
 
       one : OneQueue d programs total map m w v dues st lists
       one = record { queues = λ queue differ. queue_there st.lists.queues (Send qp) (after_event place q (Took words)) queue differ; completions = λ cq. refl }
 
-      bare : (acts : List Act) → sane.Sane (length d.qps) total (now acts) dues → Bare d programs total (after_entry m e) (with_adapter w rule) lists (now acts) dues
-      bare acts sane_now = record {
+      bare : (acts : List Act) → within.InBounds (length d.qps) total (now acts) dues → Bare d programs total (after_entry m e) (with_adapter w rule) lists (now acts) dues
+      bare acts bounded_now = record {
         objects = reader_moves d programs total map m w v dues st e lists (put_number w.adapter.taken qp (w.adapter.taken qp + 1)) r lives inside one
             (subst (λ (x : counted.Queue). requests.Tied place (after_entry m e) (poster_side programs w (Send qp)) (retirer_side d programs w qp) r x) (sym lists_here) tied);
         state = record { queues = queues_now acts; completions = completions_now acts; taken = taken_now acts };
         threads = st.bare.threads;
-        sound = record { declared = record { pairs = was.pairs; pair_lives = was.pair_lives; completions_live = was.completions_live }; long = st.bare.sound.long; sane = sane_now };
+        sound = record { declared = record { pairs = was.pairs; pair_lives = was.pair_lives; completions_live = was.completions_live }; long = st.bare.sound.long; bounded = bounded_now };
       }
 
       -- what is owed is the completion of the words
@@ -176,10 +170,10 @@ module _ (d : Lines) (programs : List (List Call)) (total : Bounds) (map : IsMap
             told = ap (λ (i : ℕ). nop_completion qp i 0) (sym posted.spells.id_is ∙ ap (λ (x : counted.Request). x.id) (sym request));
           }
 
-      by_wish : (wish : Bool) → sane.Sane (length d.qps) total (now (if wish then Complete (v.pairs qp).send_cq owed_now ∷ [] else [])) dues
-          → Stands d programs total (after_entry m e) (with_adapter w (if wish then working (Publishing (send_cq d qp) (nop_cqe qp (reader w.adapter).next)) rule else next_visit d rule)) (now (if wish then Complete (v.pairs qp).send_cq owed_now ∷ [] else [])) dues
-      by_wish true sane_now =
-          finish d programs total (after_entry m e) w lists (now (Complete (v.pairs qp).send_cq owed_now ∷ [])) dues rule (bare (Complete (v.pairs qp).send_cq owed_now ∷ []) sane_now) qp (Publishing (send_cq d qp) (nop_cqe qp (reader w.adapter).next)) (record {
+      by_wish : (wish : Bool) → within.InBounds (length d.qps) total (now (if wish then Complete (v.device.pairs qp).send_cq owed_now ∷ [] else [])) dues
+          → Stands d programs total (after_entry m e) (with_adapter w (if wish then working (Publishing (send_cq d qp) (nop_cqe qp (reader w.adapter).next)) rule else next_visit d rule)) (now (if wish then Complete (v.device.pairs qp).send_cq owed_now ∷ [] else [])) dues
+      by_wish true bounded_now =
+          finish d programs total (after_entry m e) w lists (now (Complete (v.device.pairs qp).send_cq owed_now ∷ [])) dues rule (bare (Complete (v.device.pairs qp).send_cq owed_now ∷ []) bounded_now) qp (Publishing (send_cq d qp) (nop_cqe qp (reader w.adapter).next)) (record {
             lives = lives;
             queue = refl;
             unpolled = owed_now;
@@ -188,11 +182,11 @@ module _ (d : Lines) (programs : List (List Call)) (total : Bounds) (map : IsMap
             pair = refl;
             number = ap (λ (k : ℕ). k + 1) (sym (st.bare.state.taken qp lives)) ∙ sym (put_here w.adapter.taken qp (w.adapter.taken qp + 1));
           })
-      by_wish false sane_now = to_next d programs total (after_entry m e) w lists (now []) dues rule (bare [] sane_now) refl
+      by_wish false bounded_now = to_next d programs total (after_entry m e) w lists (now []) dues rule (bare [] bounded_now) refl
 
       -- the request is taken
       pub takes : Stands d programs total (after_entry m e) (with_adapter w (publish_or_next d (reader w.adapter).next words rule)) (after v (Fetch (Send qp) number)) dues
       takes =
           subst (λ (x : Verbs). Stands d programs total (after_entry m e) (with_adapter w (publish_or_next d (reader w.adapter).next words rule)) x dues) (sym is_now)
-          (subst (λ (b : Bool). Stands d programs total (after_entry m e) (with_adapter w (if b then working (Publishing (send_cq d qp) (nop_cqe qp (reader w.adapter).next)) rule else next_visit d rule)) (now (owed_by (v.pairs qp) qp number item)) dues) (sym wanted)
-          (by_wish item.wanted (subst (λ (x : Verbs). sane.Sane (length d.qps) total x dues) is_now goes.sane)))
+          (subst (λ (b : Bool). Stands d programs total (after_entry m e) (with_adapter w (if b then working (Publishing (send_cq d qp) (nop_cqe qp (reader w.adapter).next)) rule else next_visit d rule)) (now (owed_by (v.device.pairs qp) qp number item)) dues) (sym wanted)
+          (by_wish item.wanted (subst (λ (x : Verbs). within.InBounds (length d.qps) total x dues) is_now goes.bounded)))

@@ -49,7 +49,7 @@ use Rattle.actor_rules.proofs.AdapterLooks.{looks, records, reads_on, ends, fine
 use Rattle.actor_rules.proofs.AdapterPublishes as publishes
 use Rattle.actor_rules.proofs.Holding.{Holds, Stands, Goes, IsMapped}
 use Rattle.actor_rules.proofs.Objects.{poll_side, poster_side, retirer_side}
-use Rattle.verbs_rules.specs.Sane.{Bounds}
+use Rattle.verbs_rules.specs.Within.{Bounds}
 
 module _ (d : Lines) (programs : List (List Call)) (total : Bounds) (map : IsMapped d) (m : Memory) (w : Actors) (r : Running) (h : Holds d programs total m w r) (e : BusEntry) (tells : Tells m e) where
   abbrev st : Stands d programs total m w r.verbs h.dues

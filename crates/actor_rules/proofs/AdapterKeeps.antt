@@ -16,7 +16,7 @@ use Rattle.device_engine.specs.State.{AdapterRule, AdapterAt, Looking, Reading, 
 use Rattle.device_engine.specs.Rows.{is_ready, read_or_next}
 use Rattle.actor_rules.specs.Actors.{Actors}
 use Rattle.actor_rules.specs.Dues.{dues_at}
-use Rattle.verbs_rules.specs.Sane.{Bounds}
+use Rattle.verbs_rules.specs.Within.{Bounds}
 use Rattle.actor_rules.proofs.Adapter.{AdapterStandsAt}
 use Rattle.actor_rules.proofs.Families.{put_same}
 use Rattle.actor_rules.proofs.Holding.{Stands, Bare}
@@ -39,19 +39,19 @@ module _ (d : Lines) (programs : List (List Call)) (total : Bounds) (m : Memory)
     pub finish : (qp : ℕ) (work : AdapterAt) → AdapterStandsAt d l v (at_visit qp work s) work → Stands d programs total m (with_adapter w (at_visit qp work s)) v dues
     finish qp work stands = record { lists = l; bare = b; work = stands }
 
-    visit_by : (qp : ℕ) (among : Bool) → is_among FIRST_QP (length d.qps) qp ≡ among → v.owed ≡ [] → AdapterStandsAt d l v (at_visit qp (if among then Looking else Ending) s) (if among then Looking else Ending)
+    visit_by : (qp : ℕ) (among : Bool) → is_among FIRST_QP (length d.qps) qp ≡ among → v.device.owed ≡ [] → AdapterStandsAt d l v (at_visit qp (if among then Looking else Ending) s) (if among then Looking else Ending)
     visit_by qp true lives idle = record { lives = lives; idle = idle }
     visit_by qp false lives idle = idle
 
     -- the visit is over
-    pub to_next : v.owed ≡ [] → Stands d programs total m (with_adapter w (next_visit d s)) v dues
+    pub to_next : v.device.owed ≡ [] → Stands d programs total m (with_adapter w (next_visit d s)) v dues
     to_next idle = finish (s.visit + 1) (first_work d (s.visit + 1)) (visit_by (s.visit + 1) (is_among FIRST_QP (length d.qps) (s.visit + 1)) refl idle)
 
-    pub to_first : v.owed ≡ [] → Stands d programs total m (with_adapter w (first_visit d s)) v dues
+    pub to_first : v.device.owed ≡ [] → Stands d programs total m (with_adapter w (first_visit d s)) v dues
     to_first idle = finish FIRST_QP (first_work d FIRST_QP) (visit_by FIRST_QP (is_among FIRST_QP (length d.qps) FIRST_QP) refl idle)
 
     -- it goes on with an entry that is ready
-    pub to_read_or_next : (r : WqReader) → Lives d (Sends s.visit) → v.owed ≡ [] → r.ready ≡ (s.readers s.visit).ready → Stands d programs total m (with_adapter w (read_or_next d r s)) v dues
+    pub to_read_or_next : (r : WqReader) → Lives d (Sends s.visit) → v.device.owed ≡ [] → r.ready ≡ (s.readers s.visit).ready → Stands d programs total m (with_adapter w (read_or_next d r s)) v dues
     to_read_or_next r lives idle same = by (is_ready d s.visit r) refl
       where
         by : (ready : Bool) → is_ready d s.visit r ≡ ready → Stands d programs total m (with_adapter w (if ready then working Reading s else next_visit d s)) v dues

@@ -30,7 +30,7 @@ use Rattle.actor_rules.proofs.Frame.{frame_in, frame_elsewhere}
 use Rattle.actor_rules.proofs.Holding.{Stands, Bare, IsMapped}
 use Rattle.actor_rules.proofs.Objects.{AllTied, sides, Lists, poster_side, retirer_side}
 use Rattle.actor_rules.proofs.Threading.{put_here, put_there}
-use Rattle.verbs_rules.specs.Sane.{Bounds}
+use Rattle.verbs_rules.specs.Within.{Bounds}
 
 module _ (d : Lines) (programs : List (List Call)) (total : Bounds) (map : IsMapped d) (m : Memory) (w : Actors) (v : Verbs) (dues : List (List Due)) (st : Stands d programs total m w v dues) where
   abbrev pub qp : ℕ
@@ -86,7 +86,7 @@ module _ (d : Lines) (programs : List (List Call)) (total : Bounds) (map : IsMap
     ready_here : (r : WqReader) → r.ready ≡ (put_number w.adapter.readers qp r qp).ready
     ready_here r = ap (λ (x : WqReader). x.ready) (sym (put_here w.adapter.readers qp r))
 
-    module _ (idle : v.owed ≡ []) where
+    module _ (idle : v.device.owed ≡ []) where
       pub looks : MayLook place (reader w.adapter) e → Stands d programs total (after_entry m e) (with_adapter w (after_looking d w.adapter e)) v dues
       looks may = by (loaded e == (reader w.adapter).register)
         where
@@ -118,7 +118,7 @@ module _ (d : Lines) (programs : List (List Call)) (total : Bounds) (map : IsMap
         (subst (λ (a : AdapterAt). AdapterStandsAt d st.lists v (at_visit qp w.adapter.at_work (with_reader r w.adapter)) a) (sym work)
         (record { visits = reads.visits; sends = reads.sends; ready = subst (λ (n : ℕ). 0 < n) (sym ready ∙ ready_here r) reads.ready }))
 
-  pub ends : (e : BusEntry) → IsLoad ENDED_WORD e → v.owed ≡ [] → Stands d programs total (after_entry m e) (with_adapter w (first_visit d w.adapter)) v dues
+  pub ends : (e : BusEntry) → IsLoad ENDED_WORD e → v.device.owed ≡ [] → Stands d programs total (after_entry m e) (with_adapter w (first_visit d w.adapter)) v dues
   ends e load idle =
       let tied = frame_elsewhere d map m (after_entry m e) (view programs w) st.lists (λ p lives a inside. load_keeps m e a load.op) st.bare.objects in
       to_first d programs total (after_entry m e) w st.lists v dues w.adapter (bare_quiet (after_entry m e) w.adapter (λ n. refl) tied) idle

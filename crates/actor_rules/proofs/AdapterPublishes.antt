@@ -16,7 +16,8 @@ use Rattle.verbs_types.specs.declared.state.QueuePair.{QueuePair}
 use Rattle.verbs_types.specs.declared.state.Unpolled.{Unpolled}
 use Rattle.verbs_rules.specs.Answered.{Due}
 use Rattle.verbs_rules.specs.Rows.{publish}
-use Rattle.verbs_rules.specs.State.{Verbs, CompletionQueue}
+use Rattle.verbs_rules.specs.State.{Verbs}
+use Rattle.verbs_rules.specs.OfOne.{CompletionQueue, completions_in}
 use Rattle.verbs_rules.specs.Step.{after}
 use Rattle.cqe_format.specs.declared.completion.Cqe.{Cqe}
 use Rattle.owner_ring.specs.Consumer.{Consumer}
@@ -38,7 +39,7 @@ use Rattle.provider_poll.specs.Completion.{completion_of}
 use Rattle.device_engine.specs.State.{AdapterAt, AdapterRule, Publishing, next_visit, with_queue, put_number}
 use Rattle.actor_rules.specs.Actors.{Actors, id_in}
 use Rattle.actor_rules.proofs.View.{view}
-use Rattle.verbs_rules.specs.Sane as sane
+use Rattle.verbs_rules.specs.Within as within
 use Rattle.actor_rules.proofs.Adapter.{AdapterStandsAt, Owes}
 use Rattle.actor_rules.proofs.AdapterEntries.{IsPosted, completion_is, posted_at, id_posted}
 use Rattle.actor_rules.proofs.AdapterKeeps.{with_adapter, at_visit, finish, to_next}
@@ -52,7 +53,7 @@ use Rattle.actor_rules.proofs.Objects.{AllTied, sides, Lists, poll_side}
 use Rattle.actor_rules.proofs.Queues.{QueueStands}
 use Rattle.actor_rules.proofs.Threading.{put_here, put_there, number_by}
 use Rattle.actor_rules.proofs.Matching.{Match, match_push}
-use Rattle.verbs_rules.specs.Sane.{Bounds}
+use Rattle.verbs_rules.specs.Within.{Bounds}
 
 module _ (d : Lines) (programs : List (List Call)) (total : Bounds) (map : IsMapped d) (m : Memory) (w : Actors) (v : Verbs) (dues : List (List Due)) (st : Stands d programs total m w v dues) (cq : ℕ) (c : Cqe) (o : Owes d st.lists v w.adapter cq c) where
   abbrev qp : ℕ
@@ -73,9 +74,9 @@ module _ (d : Lines) (programs : List (List Call)) (total : Bounds) (map : IsMap
   -- the queue is one that lives
   pub lives : Lives d (Completions cq)
   lives =
-      let home : v.completions_live (v.pairs qp).send_cq ≡ true = (st.bare.sound.sane.lives qp (st.bare.sound.declared.pair_lives qp ∙ o.lives)).home in
-      let same : (v.pairs qp).send_cq ≡ cq = ap (λ (p : QueuePair). p.send_cq) (st.bare.sound.declared.pairs qp) ∙ sym o.queue in
-      sym (st.bare.sound.declared.completions_live cq) ∙ ap v.completions_live (sym same) ∙ home
+      let home : v.device.completions_live (v.device.pairs qp).send_cq ≡ true = (st.bare.sound.bounded.sane.lives qp (st.bare.sound.declared.pair_lives qp ∙ o.lives)).home in
+      let same : (v.device.pairs qp).send_cq ≡ cq = ap (λ (p : QueuePair). p.send_cq) (st.bare.sound.declared.pairs qp) ∙ sym o.queue in
+      sym (st.bare.sound.declared.completions_live cq) ∙ ap v.device.completions_live (sym same) ∙ home
 
   stands : CompletionsStand d st.lists (poll_side programs w cq) ((view programs w).given cq) v cq
   stands = st.bare.state.completions cq lives
@@ -85,7 +86,7 @@ module _ (d : Lines) (programs : List (List Call)) (total : Bounds) (map : IsMap
 
   -- there is room for it
   pub never_full : (index ci : ℕ) → MayOverrun (size (ring_of place)) q index ci → ⊥
-  never_full index ci may = omega (arith, may.full, publish_room (length d.qps) total v dues cq u [] st.bare.sound.sane o.owed, stands.counts.produced, stands.counts.acked, stands.counts.size, (st.bare.sound.sane.completions cq).begun, (st.bare.sound.sane.completions cq).acked)
+  never_full index ci may = omega (arith, may.full, publish_room (length d.qps) total v dues cq u [] st.bare.sound.bounded o.owed, stands.counts.produced, stands.counts.acked, stands.counts.size, (st.bare.sound.bounded.within.completions cq).begun, (st.bare.sound.bounded.sane.completions cq).acked)
 
   -- The completion of the words, with the id that was stored, is the one that is owed.
 
@@ -101,7 +102,7 @@ module _ (d : Lines) (programs : List (List Call)) (total : Bounds) (map : IsMap
   pair_stands : QueueStands d programs w v requests_of (Send pair)
   pair_stands = st.bare.state.queues (Send pair) pair_lives
 
-  posted : IsPosted d pair (v.queues (Send pair)).posted (u.number - 1) (request_of requests_of (u.number - 1))
+  posted : IsPosted d pair (v.posted (Send pair)) (u.number - 1) (request_of requests_of (u.number - 1))
   posted =
       let order = (st.bare.objects (Sends pair) pair_lives).shape.order in
       let low : u.number - 1 < requests_of.rung = omega (arith, o.spells.some, o.spells.taken, order.taken) in
@@ -113,13 +114,13 @@ module _ (d : Lines) (programs : List (List Call)) (total : Bounds) (map : IsMap
       ap (λ (n : ℕ). completion_of c (id_in (w.posted (Send c.qpn)) n)) (sym o.number)
       ∙ ap (λ (x : Cqe). completion_of c (id_in (w.posted (Send x.qpn)) u.number)) o.spells.words
       ∙ ap (λ (items : List Item). completion_of c (id_in items u.number)) pair_stands.told
-      ∙ ap (completion_of c) (id_posted d pair (v.queues (Send pair)).posted u.number (request_of requests_of (u.number - 1)) posted)
+      ∙ ap (completion_of c) (id_posted d pair (v.posted (Send pair)) u.number (request_of requests_of (u.number - 1)) posted)
       ∙ ap (λ (x : Cqe). completion_of x (request_of requests_of (u.number - 1)).id) o.spells.words
       ∙ completion_is pair (counted.index_of requests_of (u.number - 1)) (request_of requests_of (u.number - 1)).id
       ∙ sym o.spells.told
 
-  pub goes : (x : Completion) → x ≡ u.completion → sane.Goes (length d.qps) total v 0 (Publish cq x) dues
-  goes x is = publish_goes (length d.qps) total v dues cq u [] st.bare.sound.sane o.owed x is
+  pub goes : (x : Completion) → x ≡ u.completion → within.Goes (length d.qps) total v 0 (Publish cq x) dues
+  goes x is = publish_goes (length d.qps) total v dues cq u [] st.bare.sound.bounded o.owed x is
 
   module _ (e : BusEntry) (device : QueueDevice) (inside : ring_place.touches (ring_of place) e.addr ≡ true) where
     abbrev rule : AdapterRule
@@ -162,7 +163,7 @@ module _ (d : Lines) (programs : List (List Call)) (total : Bounds) (map : IsMap
       now = publish v cq (Complete cq u ∷ [])
 
       abbrev told : CompletionQueue
-      told = record (v.completions cq) { produced = (v.completions cq).produced + 1; unpolled = (v.completions cq).unpolled ++ u ∷ [] }
+      told = record (completions_in v cq) { produced = v.device.produced cq + 1; unpolled = v.unpolled cq ++ u ∷ [] }
 
       lists_here : lists.completions cq ≡ longer
       lists_here = put_here st.lists.completions cq longer
@@ -176,7 +177,7 @@ module _ (d : Lines) (programs : List (List Call)) (total : Bounds) (map : IsMap
       gains_now : CompletionsIn d cq st.lists.queues longer (poll_side programs w cq) ((view programs w).given cq) told (ends_in v)
       gains_now =
           let long : length (q.completions ++ c ∷ []) ≡ length q.completions + 1 = length-append q.completions (c ∷ []) in
-          let us : List Unpolled = (v.completions cq).unpolled in record {
+          let us : List Unpolled = v.unpolled cq in record {
             counts = record { acked = stands.counts.acked; produced = omega (arith, stands.counts.produced, long); size = stands.counts.size; runs = stands.counts.runs };
             from = stands.from;
             from_is = stands.from_is;
@@ -191,7 +192,7 @@ module _ (d : Lines) (programs : List (List Call)) (total : Bounds) (map : IsMap
           }
 
       completions_now : (k : ℕ) → Lives d (Completions k) → CompletionsStand d lists (poll_side programs w k) ((view programs w).given k) now k
-      completions_now = number_by (λ k b. Lives d (Completions k) → CompletionsIn d k st.lists.queues (if b then longer else st.lists.completions k) (poll_side programs w k) ((view programs w).given k) (if b then told else v.completions k) (ends_in v)) cq
+      completions_now = number_by (λ k b. Lives d (Completions k) → CompletionsIn d k st.lists.queues (if b then longer else st.lists.completions k) (poll_side programs w k) ((view programs w).given k) (record (completions_in v k) { produced = if b then v.device.produced cq + 1 else v.device.produced k; unpolled = if b then v.unpolled cq ++ u ∷ [] else v.unpolled k }) (ends_in v)) cq
           (λ alive. gains_now) (λ k differ alive. st.bare.state.completions k alive)
 
       -- it is published
@@ -206,7 +207,7 @@ module _ (d : Lines) (programs : List (List Call)) (total : Bounds) (map : IsMap
             sound = record {
               declared = record { pairs = was.pairs; pair_lives = was.pair_lives; completions_live = was.completions_live };
               long = st.bare.sound.long;
-              sane = subst (λ (acts : List Act). sane.Sane (length d.qps) total (publish v cq acts) dues) o.owed (goes x is).sane;
+              bounded = subst (λ (acts : List Act). within.InBounds (length d.qps) total (publish v cq acts) dues) o.owed (goes x is).bounded;
             };
           } in
           subst (λ (acts : List Act). Stands d programs total (after_entry m e) (with_adapter w (next_visit d rule)) (publish v cq acts) dues) (sym o.owed)

@@ -6,7 +6,8 @@ use Rattle.verbs_types.specs.declared.completion.Queue.TheVariants.{Send}
 use Rattle.verbs_types.specs.declared.declaration.Lines.{Lines}
 use Rattle.verbs_types.specs.declared.state.Unpolled.{Unpolled}
 use Rattle.verbs_rules.specs.Rows.{nop_completion}
-use Rattle.verbs_rules.specs.State.{CompletionQueue, Verbs}
+use Rattle.verbs_rules.specs.State.{Verbs}
+use Rattle.verbs_rules.specs.OfOne.{CompletionQueue, completions_in}
 use Rattle.cqe_format.specs.declared.completion.Cqe.{Cqe}
 use Rattle.owner_ring.specs.Place.{size}
 use Rattle.owner_ring.specs.Consumer.{Consumer, Waiting, Reading, next_index}
@@ -130,7 +131,7 @@ pub record CompletionsIn (d : Lines) (cq : ℕ) (words_of : Queue → counted.Qu
   pub ends : (qp : ℕ) → Lives d (Sends qp) → send_cq d qp ≡ cq → ends_of qp ≡ ends_on (place_in d cq qp) (pending p.state)
 
 abbrev pub ends_in : Verbs → ℕ → List ℕ
-ends_in v qp = (v.queues (Send qp)).ends
+ends_in v qp = (v.settled (Send qp)).ends
 
 abbrev pub CompletionsStand : Lines → Lists → PollRule → List Completion → Verbs → ℕ → Type 0
-CompletionsStand d l p given v cq = CompletionsIn d cq l.queues (l.completions cq) p given (v.completions cq) (ends_in v)
+CompletionsStand d l p given v cq = CompletionsIn d cq l.queues (l.completions cq) p given (completions_in v cq) (ends_in v)

@@ -6,7 +6,7 @@ use Rattle.bus_core.specs.Trace.{Memory, after_entry}
 use Rattle.bus_core.proofs.Words.{elsewhere}
 use Rattle.verbs_types.specs.declared.call.Call.{Call}
 use Rattle.verbs_types.specs.declared.declaration.Lines.{Lines}
-use Rattle.verbs_rules.specs.Sane.{Bounds}
+use Rattle.verbs_rules.specs.Within.{Bounds}
 use Rattle.verbs_rules.specs.Running.{Running}
 use Rattle.object_places.specs.Objects.{Mark, touches}
 use Rattle.actor_rules.specs.Owners.{poster_of, poller_of}

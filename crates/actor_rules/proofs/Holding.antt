@@ -10,7 +10,7 @@ use Rattle.verbs_types.specs.declared.entry.Entry.{Entry}
 use Rattle.verbs_rules.specs.Answered.{Due, MayAnswer}
 use Rattle.verbs_types.specs.Lines.{is_among, is_declared}
 use Rattle.verbs_rules.specs.Start.{start_pair}
-use Rattle.verbs_rules.specs.State.{Verbs}
+use Rattle.verbs_rules.specs.State.{Device, Verbs}
 use Rattle.verbs_rules.specs.Step.{MayStep}
 use Rattle.verbs_rules.specs.Running.{Running, after_turn}
 use Rattle.device_engine.specs.State.{AdapterRule}
@@ -20,7 +20,7 @@ use Rattle.object_places.specs.Apart.{ArePlaced, AreApart}
 use Rattle.actor_rules.specs.Thread.{Thread}
 use Rattle.actor_rules.specs.Actors.{Actors, MayAny, after, says}
 use Rattle.actor_rules.specs.Dues.{dues_at}
-use Rattle.verbs_rules.specs.Sane.{Bounds, Sane}
+use Rattle.verbs_rules.specs.Within.{Bounds, InBounds}
 use Rattle.actor_rules.proofs.View.{View, view}
 use Rattle.actor_rules.proofs.Objects.{Lists, AllTiedIn}
 use Rattle.actor_rules.proofs.Queues.{QueueLives, QueueIn}
@@ -29,22 +29,22 @@ use Rattle.actor_rules.proofs.Adapter.{AdapterStandsAt}
 use Rattle.actor_rules.proofs.Threads.{ThreadStands}
 
 -- the queue pairs and what lives are as they were declared
-pub record AsDeclared (d : Lines) (v : Verbs) : Type 0 where
-  pub pairs : (qp : ℕ) → v.pairs qp ≡ start_pair d qp
-  pub pair_lives : (qp : ℕ) → v.pair_lives qp ≡ is_among FIRST_QP (length d.qps) qp
-  pub completions_live : (cq : ℕ) → v.completions_live cq ≡ is_among 0 (length d.cqs) cq
+pub record AsDeclared (d : Lines) (device : Device) : Type 0 where
+  pub pairs : (qp : ℕ) → device.pairs qp ≡ start_pair d qp
+  pub pair_lives : (qp : ℕ) → device.pair_lives qp ≡ is_among FIRST_QP (length d.qps) qp
+  pub completions_live : (cq : ℕ) → device.completions_live cq ≡ is_among 0 (length d.cqs) cq
 
 -- each queue of words stands for its queue of the abstract state
 pub record StateIn (d : Lines) (s : View) (l : Lists) (v : Verbs) : Type 0 where
   pub queues : (queue : Queue) → QueueLives d queue → QueueIn d s v (l.queues queue) queue
   pub completions : (cq : ℕ) → Lives d (Completions cq) → CompletionsStand d l (s.polls cq) (s.given cq) v cq
-  pub taken : (qp : ℕ) → Lives d (Sends qp) → s.taken qp ≡ (v.queues (Send qp)).taken
+  pub taken : (qp : ℕ) → Lives d (Sends qp) → s.taken qp ≡ v.device.taken (Send qp)
 
 -- the state and what is owed are sound in themselves
 pub record IsSound (d : Lines) (programs : List (List Call)) (total : Bounds) (v : Verbs) (dues : List (List Due)) : Type 0 where
-  pub declared : AsDeclared d v
+  pub declared : AsDeclared d v.device
   pub long : length dues ≡ length programs
-  pub sane : Sane (length d.qps) total v dues
+  pub bounded : InBounds (length d.qps) total v dues
 
 -- All that stands but for the adapter's work.
 pub record BareIn (d : Lines) (programs : List (List Call)) (total : Bounds) (m : Memory) (s : View) (threads_are : ℕ → Thread) (l : Lists) (v : Verbs) (dues : List (List Due)) : Type 0 where

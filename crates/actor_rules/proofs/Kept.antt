@@ -5,6 +5,7 @@ use Rattle.verbs_types.specs.declared.completion.Queue.TheVariants.{Send}
 use Rattle.verbs_types.specs.declared.declaration.Lines.{Lines}
 use Rattle.verbs_types.specs.declared.state.Unpolled.{Unpolled}
 use Rattle.verbs_rules.specs.State.{Verbs}
+use Rattle.verbs_rules.specs.OfOne.{completions_in}
 use Rattle.cqe_format.specs.declared.completion.Cqe.{Cqe}
 use Rattle.owner_ring.specs.Place.{size}
 use Rattle.cq_pair.specs.Place.{ring_of}
@@ -36,8 +37,8 @@ module _ (d : Lines) (l l' : Lists) (grows : (qp : ℕ) → Grows (l.queues (Sen
   poll_kept cq p given us (states.Acking taken empty) h = h
 
   -- a completion queue that the operation was not on
-  pub completions_kept : (p : PollRule) (given : List Completion) (v v' : Verbs) (cq : ℕ) → l'.completions cq ≡ l.completions cq → v'.completions cq ≡ v.completions cq
-      → ((qp : ℕ) → Lives d (Sends qp) → send_cq d qp ≡ cq → (v'.queues (Send qp)).ends ≡ (v.queues (Send qp)).ends) → CompletionsStand d l p given v cq → CompletionsStand d l' p given v' cq
+  pub completions_kept : (p : PollRule) (given : List Completion) (v v' : Verbs) (cq : ℕ) → l'.completions cq ≡ l.completions cq → completions_in v' cq ≡ completions_in v cq
+      → ((qp : ℕ) → Lives d (Sends qp) → send_cq d qp ≡ cq → (v'.settled (Send qp)).ends ≡ (v.settled (Send qp)).ends) → CompletionsStand d l p given v cq → CompletionsStand d l' p given v' cq
   completions_kept p given v v' cq list same ends h = record {
     counts = coe 1 0 (i. Counts (same i).acked (same i).produced (same i).size (list i).overrun (list i).acked (produced (list i)) (size (ring_of (completions_of d cq)))) h.counts;
     from = h.from;
@@ -45,14 +46,14 @@ module _ (d : Lines) (l l' : Lists) (grows : (qp : ℕ) → Grows (l.queues (Sen
     low = coe 1 0 (i. (list i).acked ≤ h.from) h.low;
     unpolled = coe 1 0 (i. Match (IsCompletion l') (since (list i) h.from) (same i).unpolled) (match_weaken (IsCompletion l) (IsCompletion l') completion_same _ _ h.unpolled);
     reads = h.reads;
-    poll = coe 1 0 (i. PollStands d cq l' p given (same i).unpolled p.state) (poll_kept cq p given (v.completions cq).unpolled p.state h.poll);
+    poll = coe 1 0 (i. PollStands d cq l' p given (same i).unpolled p.state) (poll_kept cq p given (v.unpolled cq) p.state h.poll);
     retirers = h.retirers;
     asked = h.asked;
     ends = λ qp lives home. ends qp lives home ∙ h.ends qp lives home;
   }
 
   -- the adapter's work is what the state owes as before
-  pub work_kept : (v v' : Verbs) (a : AdapterRule) (work : AdapterAt) → v'.owed ≡ v.owed → AdapterStandsAt d l v a work → AdapterStandsAt d l' v' a work
+  pub work_kept : (v v' : Verbs) (a : AdapterRule) (work : AdapterAt) → v'.device.owed ≡ v.device.owed → AdapterStandsAt d l v a work → AdapterStandsAt d l' v' a work
   work_kept v v' a Looking same h = record { lives = h.lives; idle = same ∙ h.idle }
   work_kept v v' a Recording same h = record { lives = h.lives; idle = same ∙ h.idle }
   work_kept v v' a Reading same h = record { visits = record { lives = h.visits.lives; idle = same ∙ h.visits.idle }; sends = h.sends; ready = h.ready }

@@ -9,7 +9,7 @@ use Rattle.verbs_types.specs.declared.completion.Queue.TheVariants as queues
 use Rattle.verbs_types.specs.declared.declaration.Lines.{Lines}
 use Rattle.verbs_types.specs.declared.request.Item.TheVariants.{Request as TheRequest, Receive as TheReceive}
 use Rattle.verbs_rules.specs.Answered.{Due, MayAnswer, after_answer, own_entries}
-use Rattle.verbs_rules.specs.Sane.{Bounds}
+use Rattle.verbs_rules.specs.Within.{Bounds}
 use Rattle.verbs_rules.specs.Start.{start}
 use Rattle.verbs_rules.specs.Running.{Running}
 use Rattle.actor_map.specs.Start.{start_words}

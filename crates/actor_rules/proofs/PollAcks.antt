@@ -8,6 +8,7 @@ use Rattle.verbs_types.specs.declared.declaration.Lines.{Lines}
 use Rattle.verbs_types.specs.declared.entry.What.TheVariants.{Ack}
 use Rattle.verbs_types.specs.declared.state.Unpolled.{Unpolled}
 use Rattle.verbs_rules.specs.State.{Verbs}
+use Rattle.verbs_rules.specs.OfOne.{completions_in}
 use Rattle.verbs_rules.specs.Step.{after}
 use Rattle.owner_ring.specs.Place.{size}
 use Rattle.owner_ring.specs.Consumer.{Consumer, next_index}
@@ -34,7 +35,6 @@ use Rattle.actor_rules.proofs.View.{View}
 use Rattle.actor_rules.proofs.Matching.{Match, match_length}
 use Rattle.actor_rules.proofs.Objects.{Lists, retirer_in}
 use Rattle.actor_rules.proofs.Completions.{CompletionsIn, ends_in, IsCompletion, AskedFor}
-use Rattle.actor_rules.proofs.PollFrame.{work_refl}
 use Rattle.actor_rules.proofs.Threading.{put_here, put_there}
 use Rattle.actor_rules.proofs.PollNow.{PollNow}
 use Rattle.actor_rules.proofs.PollOutcomes.{Outcome, Ends}
@@ -53,7 +53,7 @@ module _ (d : Lines) (m : Memory) (around : View) (cq most : ℕ) (l : Lists) (v
   q = l.completions cq
 
   abbrev us : List Unpolled
-  us = (v.completions cq).unpolled
+  us = v.unpolled cq
 
   abbrev index : ℕ
   index = next_index c
@@ -66,7 +66,7 @@ module _ (d : Lines) (m : Memory) (around : View) (cq most : ℕ) (l : Lists) (v
 
   -- the index of the oldest completion that no poll took
   abbrev oldest : ℕ
-  oldest = (v.completions cq).produced - length us
+  oldest = v.device.produced cq - length us
 
   -- the state after the entry
   abbrev v' : Verbs
@@ -86,13 +86,13 @@ module _ (d : Lines) (m : Memory) (around : View) (cq most : ℕ) (l : Lists) (v
 
   ack_keeps : VerbsKept d cq v v'
   ack_keeps = record {
-    same = record { queues = λ queue. work_refl (v.queues queue); pairs = λ qp. refl; pair_lives = λ qp. refl; completions_live = λ k. refl; owed = refl };
-    others = λ k apart. put_there v.completions cq (record (v.completions cq) { acked = oldest }) k apart;
+    same = record { limits = refl; posted = refl; device = refl };
+    others = λ k apart i. record (completions_in v k) { acked = put_there v.acked cq oldest k apart i };
     ends = λ qp lives away. refl;
   }
 
-  completions_now : v'.completions cq ≡ record (v.completions cq) { acked = oldest }
-  completions_now = put_here v.completions cq (record (v.completions cq) { acked = oldest })
+  completions_now : completions_in v' cq ≡ record (completions_in v cq) { acked = oldest }
+  completions_now = λ i. record (completions_in v cq) { acked = put_here v.acked cq oldest i }
 
   module _ (may : MayPoll (completions_of d cq) c mark e) where
     abbrev now_is : PollRule
@@ -101,7 +101,7 @@ module _ (d : Lines) (m : Memory) (around : View) (cq most : ℕ) (l : Lists) (v
     goes : completions.Goes (completions_of d cq) (after_entry m e) (around.devices cq) now_is.host q (Some (Acked index))
     goes = host.host_step (completions_of d cq) m (around.devices cq) c q mark e now.fine now.host tells may
 
-    stands_then : CompletionsIn d cq l.queues q' now_is [] (v'.completions cq) (ends_in v')
+    stands_then : CompletionsIn d cq l.queues q' now_is [] (completions_in v' cq) (ends_in v')
     stands_then =
         let s = now.stands in
         let low : q.acked ≤ index = omega (arith, s.low, from_is) in

@@ -28,7 +28,7 @@ use Rattle.actor_rules.specs.Polling.{drain_left}
 use Rattle.actor_rules.specs.Actors.{Actors, by}
 use Rattle.actor_rules.specs.Dues.{dues_at, is_storing, store_dues, post_dues, poll_dues, drain_dues, call_dues}
 use Rattle.verbs_rules.specs.Proper.{Owes, dues_of_thread}
-use Rattle.verbs_rules.specs.Sane as sane
+use Rattle.verbs_rules.specs.Within as within
 use Rattle.verbs_laws.proofs.Choices.{either}
 use Rattle.actor_rules.proofs.Dues.{dues_at-set}
 use Rattle.actor_rules.proofs.Queues.{accepted, written_by}
@@ -38,7 +38,7 @@ use Rattle.actor_rules.proofs.Holding.{Holds, Goes}
 use Rattle.actor_rules.proofs.View.{view, given_in}
 use Rattle.actor_rules.proofs.Threading.{put_here, put_there}
 use Rattle.actor_rules.proofs.PollFrame.{goes_on, poll_goes_on, Moves, IsPoller, stands_after}
-use Rattle.verbs_rules.specs.Sane.{Bounds}
+use Rattle.verbs_rules.specs.Within.{Bounds}
 
 -- by how far the poll has come, with what is owed after it
 abbrev pub owed_at : Lines → ℕ → Due → List Due → PollState → List Due
@@ -200,7 +200,7 @@ module _ (d : Lines) (programs : List (List Call)) (total : Bounds) (m m' : Memo
       dues = h.dues;
       owed = h.owed;
       stands = stands_after d programs w t cq total m m' r.verbs r.verbs h.dues h.dues p given calls h.stands move (poller calls)
-          (record { thread = subst (λ (ds : List Due). ThreadStands d programs (suc t) (goes_on th cq p given calls) ds) (same ∙ sym owed_now) (thread_goes_on poll); others = λ j apart. refl; long = refl; shown = shown_for most given p.state poll }) h.stands.bare.sound.sane;
+          (record { thread = subst (λ (ds : List Due). ThreadStands d programs (suc t) (goes_on th cq p given calls) ds) (same ∙ sym owed_now) (thread_goes_on poll); others = λ j apart. refl; long = refl; shown = shown_for most given p.state poll }) h.stands.bare.sound.bounded;
     }
 
   -- a poll that is over
@@ -220,7 +220,7 @@ module _ (d : Lines) (programs : List (List Call)) (total : Bounds) (m m' : Memo
 
   -- an entry is said, which was owed next
   pub says_goes : (what : What) (p : PollRule) (given : List Completion) (calls' : List Call) (due : Due) (rest left : List Due) → given_in p.state given ≡ given → dues_of_thread h.dues t ≡ due ∷ rest → Answers due what → left_by due what ≡ left
-      → sane.Goes (length d.qps) total r.verbs (suc t) what (slice_set h.dues t (left ++ rest)) → ThreadStands d programs (suc t) (goes_on th cq p given calls') (left ++ rest)
+      → within.Goes (length d.qps) total r.verbs (suc t) what (slice_set h.dues t (left ++ rest)) → ThreadStands d programs (suc t) (goes_on th cq p given calls') (left ++ rest)
       → Moves d (view programs w) cq m' h.stands.lists r.verbs p given (after r.verbs what) → Goes d programs total m' (poll_goes_on w t cq p given calls') r (Some (by (suc t) what))
   says_goes what p given calls' due rest left shown is answers leaves goes thread move =
       let low : t < length h.dues = (owes_from h.dues t due rest is).low in
@@ -237,6 +237,6 @@ module _ (d : Lines) (programs : List (List Call)) (total : Bounds) (m m' : Memo
                 others = λ j apart. get_or-set_other h.dues t j (left ++ rest) [] apart;
                 long = length-set h.dues t (left ++ rest);
                 shown = shown;
-              }) goes.sane;
+              }) goes.bounded;
         },
       )

@@ -12,8 +12,9 @@ use Rattle.verbs_types.specs.declared.declaration.Lines.{Lines}
 use Rattle.verbs_types.specs.declared.entry.What.{What}
 use Rattle.verbs_types.specs.declared.entry.What.TheVariants.{Poll, Retire, Ack}
 use Rattle.verbs_types.specs.declared.state.Unpolled.{Unpolled}
+use Rattle.verbs_rules.specs.Family.{same_number}
 use Rattle.verbs_rules.specs.Answered.{Due, Retiring, Acking}
-use Rattle.verbs_rules.specs.State.{CompletionQueue, Verbs}
+use Rattle.verbs_rules.specs.State.{Verbs}
 use Rattle.verbs_rules.specs.Step.{after}
 use Rattle.verbs_rules.specs.Running.{Running}
 use Rattle.provider_poll.specs.declared.answer.PollAnswer.{PollAnswer}
@@ -28,7 +29,7 @@ use Rattle.actor_rules.specs.Polling.{given_after, poll_now}
 use Rattle.actor_rules.specs.Actors.{Actors, by, posted_with}
 use Rattle.actor_rules.specs.Dues.{is_storing, store_dues}
 use Rattle.verbs_rules.specs.Proper.{dues_of_thread}
-use Rattle.verbs_rules.specs.Sane as sane
+use Rattle.verbs_rules.specs.Within as within
 use Rattle.actor_rules.proofs.Families.{put_same}
 use Rattle.verbs_laws.proofs.GoesSettle.{ends_owed, retire_goes, ack_goes}
 use Rattle.verbs_laws.proofs.Waiting.{completion_in}
@@ -38,7 +39,7 @@ use Rattle.actor_rules.proofs.PollFrame.{goes_on, Moves}
 use Rattle.actor_rules.proofs.PollDues.{shown_for, Job, owed_at, owed_now, owes_from, silent_goes, says_goes, thread_goes_on, thread_ends}
 use Rattle.actor_rules.proofs.PollNow.{begun_owes}
 use Rattle.actor_rules.proofs.PollOutcomes.{Outcome, GoesOn, Takes, Nothing, Stores, Ends, Loads, Tells, FindsNone, Retires, Acknowledges, Speaks}
-use Rattle.verbs_rules.specs.Sane.{Bounds}
+use Rattle.verbs_rules.specs.Within.{Bounds}
 
 shown_none : (state : PollState) → given_in state [] ≡ []
 shown_none states.Idle = refl
@@ -61,7 +62,7 @@ take_few (suc n) (u ∷ us) = omega (arith, take_few n us)
 
 -- a poll that takes none leaves the queues as they are
 pub polls_none : (v : Verbs) (cq most : ℕ) → after v (Poll cq most []) ≡ v
-polls_none v cq most = ap (λ (f : ℕ → CompletionQueue). record v { completions = f }) (put_same (λ (m n : ℕ). m == n) v.completions cq (v.completions cq) (λ j same. eqb-true j cq same) refl)
+polls_none v cq most = ap (λ (f : ℕ → List Unpolled). record v { unpolled = f }) (put_same same_number v.unpolled cq (v.unpolled cq) (λ j same. eqb-true j cq same) refl)
 
 module _ (d : Lines) (cq : ℕ) (due : Due) (more : List Due) (state : PollState) where
   pub owed_before : is_storing state ≡ false → owed_at d cq due more state ≡ due ∷ more
@@ -101,25 +102,25 @@ module _ (d : Lines) (programs : List (List Call)) (total : Bounds) (m m' : Memo
 
     on_tell : Tells d m' (view programs w) cq most h.stands.lists r.verbs now_is th.given p answer said → wanted
     on_tell o =
-        let us : List Unpolled = take most (r.verbs.completions cq).unpolled in
+        let us : List Unpolled = take most (r.verbs.unpolled cq) in
         let xs : List Completion = map completion_in us in
         let is : dues_of_thread h.dues t ≡ job.due ∷ job.more = owed_first ∙ owed_before d cq job.due job.more now_is.state o.before in
         let long : length xs ≡ length us = length-map us completion_in in
-        let few : length us ≤ most = take_few most (r.verbs.completions cq).unpolled in
+        let few : length us ≤ most = take_few most (r.verbs.unpolled cq) in
         let some : 0 < length xs = omega (arith, o.some, long) in
         let thread = subst (ThreadStands d programs (suc t) (goes_on th cq p (given_after th.given answer) calls)) (owed_behind d cq job.due job.more p.state o.stores ∙ ap (λ (ds : List Due). ds ++ job.more) o.owed)
         (thread_goes_on d programs total m m' w r t cq most h calls calls_are job p (given_after th.given answer) o.polls) in
         as_told p (given_after th.given answer) (calls_after answer) calls (speak said) (Some (Poll cq most xs)) (speaks.goes_on answer o.goes_on) (ap speak o.says ∙ speaks.tells xs some)
         (says_goes d programs total m m' w r t cq most h calls calls_are job (Poll cq most xs) p (given_after th.given answer) calls job.due job.more (ends_owed cq us) (shown_for most _ p.state o.polls) is
-        (speaks.answers xs some (omega (arith, long, few))) (speaks.leaves xs) (speaks.goes (length d.qps) total r.verbs h.dues t job.more h.stands.bare.sound.sane (owes_from h.dues t job.due job.more is)) thread o.moved)
+        (speaks.answers xs some (omega (arith, long, few))) (speaks.leaves xs) (speaks.goes (length d.qps) total r.verbs h.dues t job.more h.stands.bare.sound.bounded (owes_from h.dues t job.due job.more is)) thread o.moved)
 
     on_none : FindsNone d m' (view programs w) cq most h.stands.lists r.verbs now_is th.given p answer said → wanted
     on_none o = elim speaks.empty [
       | inl tells ↦
-          let us : List Unpolled = take most (r.verbs.completions cq).unpolled in
+          let us : List Unpolled = take most (r.verbs.unpolled cq) in
           let none : us ≡ [] = ap (take most) o.none ∙ take_none most in
           let is : dues_of_thread h.dues t ≡ job.due ∷ job.more = owed_first ∙ owed_before d cq job.due job.more now_is.state o.before in
-          let goes = subst (λ (vs : List Unpolled). sane.Goes (length d.qps) total r.verbs (suc t) (Poll cq most (map completion_in vs)) (slice_set h.dues t (ends_owed cq vs ++ job.more))) none (speaks.goes (length d.qps) total r.verbs h.dues t job.more h.stands.bare.sound.sane (owes_from h.dues t job.due job.more is)) in
+          let goes = subst (λ (vs : List Unpolled). within.Goes (length d.qps) total r.verbs (suc t) (Poll cq most (map completion_in vs)) (slice_set h.dues t (ends_owed cq vs ++ job.more))) none (speaks.goes (length d.qps) total r.verbs h.dues t job.more h.stands.bare.sound.bounded (owes_from h.dues t job.due job.more is)) in
           subst (λ (x : Step Completion PollAnswer). goal p (given_after th.given x) (calls_after x) (speak said)) (sym o.over)
           (as_told p [] (calls_after (Done (Polled 0 o.word))) job.left (speak said) (Some (Poll cq most [])) (tells.over o.word) (ap speak o.says ∙ tells.says)
           (says_goes d programs total m m' w r t cq most h calls calls_are job (Poll cq most []) p [] job.left job.due job.more [] (shown_none p.state) is tells.answers (speaks.leaves []) goes
@@ -141,16 +142,16 @@ module _ (d : Lines) (programs : List (List Call)) (total : Bounds) (m m' : Memo
         subst (λ (x : Step Completion PollAnswer). goal p (given_after th.given x) (calls_after x) (speak said)) (sym o.more)
         (as_told p th.given (calls_after More) calls (speak said) (Some (Retire (Send o.qp) o.number)) (speaks.goes_on More tt) (ap speak o.says ∙ speaks.retires (Send o.qp) o.number)
         (says_goes d programs total m m' w r t cq most h calls calls_are job (Retire (Send o.qp) o.number) p th.given calls (Retiring (Send o.qp)) rest [] (shown_for most th.given p.state o.polls) is refl refl
-        (retire_goes (length d.qps) total r.verbs h.dues t o.qp o.number o.others rest h.stands.bare.sound.sane (owes_from h.dues t (Retiring (Send o.qp)) rest is) o.first) thread o.moved))
+        (retire_goes (length d.qps) total r.verbs h.dues t o.qp o.number o.others rest h.stands.bare.sound.bounded (owes_from h.dues t (Retiring (Send o.qp)) rest is) o.first) thread o.moved))
 
     on_end : Acknowledges d m' (view programs w) cq most h.stands.lists r.verbs now_is th.given p answer said → wanted
     on_end o =
-        let index : ℕ = (r.verbs.completions cq).produced - length (r.verbs.completions cq).unpolled in
+        let index : ℕ = (r.verbs.device.produced cq) - length (r.verbs.unpolled cq) in
         let is : dues_of_thread h.dues t ≡ Acking cq ∷ job.more = owed_first ∙ owed_behind d cq job.due job.more now_is.state o.before ∙ ap (λ (ds : List Due). ds ++ job.more) o.owed in
         subst (λ (x : Step Completion PollAnswer). goal p (given_after th.given x) (calls_after x) (speak said)) (sym o.over)
         (as_told p [] (calls_after (Done (Polled o.taken o.word))) job.left (speak said) (Some (Ack cq index)) (speaks.over o.taken o.word o.some) (ap speak o.says ∙ speaks.acks index)
         (says_goes d programs total m m' w r t cq most h calls calls_are job (Ack cq index) p [] job.left (Acking cq) job.more [] (shown_none p.state) is refl refl
-        (ack_goes (length d.qps) total r.verbs h.dues t cq job.more h.stands.bare.sound.sane (owes_from h.dues t (Acking cq) job.more is)) (thread_ends d programs total m m' w r t cq most h calls calls_are job p o.idle) o.moved))
+        (ack_goes (length d.qps) total r.verbs h.dues t cq job.more h.stands.bare.sound.bounded (owes_from h.dues t (Acking cq) job.more is)) (thread_ends d programs total m m' w r t cq most h calls calls_are job p o.idle) o.moved))
 
     pub finish : Outcome d m' (view programs w) cq most h.stands.lists r.verbs now_is th.given p answer said → wanted
     finish (GoesOn o) = on_load o

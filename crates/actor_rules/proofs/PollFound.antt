@@ -55,7 +55,7 @@ given_is qp index id = refl
 
 module _ (d : Lines) (m : Memory) (around : View) (cq most : ℕ) (l : Lists) (v : Verbs) (c : Consumer) (seen : ℕ) (rs : List Retirer) (es : List End) (cqe : Cqe) (queue : ℕ) (given : List Completion)
     (now : PollNow d m around cq most l v (record { host = c; seen = seen; retirers = rs; state = states.LookingUp most (record { items = es }) cqe queue }) given) (e : BusEntry)
-    (qp : ℕ) (place : HasPlace d cq qp) (is_here : place_in d cq qp ≡ queue) (u : Unpolled) (at_u : slice_get (v.completions cq).unpolled (length es) ≡ Some u) (same : u.completion.qp ≡ qp) where
+    (qp : ℕ) (place : HasPlace d cq qp) (is_here : place_in d cq qp ≡ queue) (u : Unpolled) (at_u : slice_get (v.unpolled cq) (length es) ≡ Some u) (same : u.completion.qp ≡ qp) where
   abbrev side : PollRule
   side = record { host = c; seen = seen; retirers = rs; state = states.LookingUp most (record { items = es }) cqe queue }
 
@@ -63,7 +63,7 @@ module _ (d : Lines) (m : Memory) (around : View) (cq most : ℕ) (l : Lists) (v
   mine = retirer_in rs (place_in d cq qp)
 
   abbrev us : List Unpolled
-  us = (v.completions cq).unpolled
+  us = (v.unpolled cq)
 
   -- the retirer that has found this end
   module _ (end : ℕ) (end_is : end ≡ u.number) where

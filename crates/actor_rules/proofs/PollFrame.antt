@@ -4,10 +4,12 @@ use Rattle.std.proofs.lemmas.Bool.Decides.{eqb_tells}
 use Rattle.bus_core.specs.Trace.{Memory}
 use Rattle.verbs_types.specs.declared.call.Call.{Call}
 use Rattle.verbs_types.specs.declared.completion.Completion.{Completion}
+use Rattle.verbs_types.specs.declared.request.Item.{Item}
 use Rattle.verbs_types.specs.declared.completion.Queue.{Queue}
 use Rattle.verbs_types.specs.declared.completion.Queue.TheVariants.{Send}
 use Rattle.verbs_types.specs.declared.declaration.Lines.{Lines}
-use Rattle.verbs_rules.specs.State.{WorkQueue, Verbs}
+use Rattle.verbs_rules.specs.State.{Verbs, Device, Limits}
+use Rattle.verbs_rules.specs.OfOne.{completions_in}
 use Rattle.verbs_rules.specs.Answered.{Due}
 use Rattle.counted_ring.specs.Queue.{Request, index_in}
 use Rattle.counted_ring.specs.Queue as counted
@@ -21,7 +23,7 @@ use Rattle.actor_rules.specs.Owners.{poster_of, poller_of}
 use Rattle.actor_rules.specs.Thread.{Thread}
 use Rattle.actor_rules.specs.Actors.{Actors}
 use Rattle.actor_rules.specs.Dues.{dues_at}
-use Rattle.verbs_rules.specs.Sane.{Bounds, Sane}
+use Rattle.verbs_rules.specs.Within.{Bounds, InBounds}
 use Rattle.actor_rules.proofs.Threading.{put_here, put_there, number_by}
 use Rattle.actor_rules.proofs.View.{View, view, seen_kept, seen_put, post_written, poll_given, given_in}
 use Rattle.actor_rules.proofs.Matching.{Match}
@@ -29,7 +31,7 @@ use Rattle.actor_rules.proofs.Objects.{Lists, AllTiedIn}
 use Rattle.actor_rules.proofs.Queues.{QueueLives, QueueIn, IsItem, written_by}
 use Rattle.actor_rules.proofs.Completions.{CompletionsStand}
 use Rattle.actor_rules.proofs.Threads.{ThreadStands, PollsRest, threads_now}
-use Rattle.actor_rules.proofs.Holding.{Stands, StandsIn}
+use Rattle.actor_rules.proofs.Holding.{AsDeclared, Stands, StandsIn}
 use Rattle.actor_rules.proofs.Growing.{Grows}
 use Rattle.actor_rules.proofs.Kept.{completions_kept, work_kept}
 
@@ -67,24 +69,14 @@ same_grows q now s = record {
   request = λ n low. ap (λ (rs : List Request). request_of (record { requests = rs; next = 0; rung = 0; taken = 0; retired = 0 }) n) s.requests;
 }
 
-pub record SameWork (u now : WorkQueue) : Type 0 where
-  pub room : now.room ≡ u.room
-  pub segments : now.segments ≡ u.segments
-  pub posted : now.posted ≡ u.posted
-  pub taken : now.taken ≡ u.taken
-
-pub work_refl : (u : WorkQueue) → SameWork u u
-work_refl u = record { room = refl; segments = refl; posted = refl; taken = refl }
-
+-- a poll's entries leave what is declared, what was posted and what the adapter changes
 pub record SameVerbs (v now : Verbs) : Type 0 where
-  pub queues : (queue : Queue) → SameWork (v.queues queue) (now.queues queue)
-  pub pairs : (qp : ℕ) → now.pairs qp ≡ v.pairs qp
-  pub pair_lives : (qp : ℕ) → now.pair_lives qp ≡ v.pair_lives qp
-  pub completions_live : (cq : ℕ) → now.completions_live cq ≡ v.completions_live cq
-  pub owed : now.owed ≡ v.owed
+  pub limits : now.limits ≡ v.limits
+  pub posted : now.posted ≡ v.posted
+  pub device : now.device ≡ v.device
 
 pub verbs_refl : (v : Verbs) → SameVerbs v v
-verbs_refl v = record { queues = λ queue. work_refl (v.queues queue); pairs = λ qp. refl; pair_lives = λ qp. refl; completions_live = λ cq. refl; owed = refl }
+verbs_refl v = record { limits = refl; posted = refl; device = refl }
 
 -- The whole
 
@@ -94,10 +86,10 @@ pub record Moves (d : Lines) (around : View) (cq : ℕ) (m : Memory) (l : Lists)
   pub objects : AllTiedIn d m (polled_view around cq p given) lists
   pub words : (queue : Queue) → SameRequests (l.queues queue) (lists.queues queue)
   pub verbs : SameVerbs v v'
-  pub retired : (queue : Queue) → QueueLives d queue → (v'.queues queue).retired ≡ (lists.queues queue).retired
+  pub retired : (queue : Queue) → QueueLives d queue → (v'.settled queue).retired ≡ (lists.queues queue).retired
   pub plain : (k : ℕ) → k ≢ cq → lists.completions k ≡ l.completions k
-  pub others : (k : ℕ) → k ≢ cq → v'.completions k ≡ v.completions k
-  pub ends : (qp : ℕ) → Lives d (Sends qp) → send_cq d qp ≢ cq → (v'.queues (Send qp)).ends ≡ (v.queues (Send qp)).ends
+  pub others : (k : ℕ) → k ≢ cq → completions_in v' k ≡ completions_in v k
+  pub ends : (qp : ℕ) → Lives d (Sends qp) → send_cq d qp ≢ cq → (v'.settled (Send qp)).ends ≡ (v.settled (Send qp)).ends
   pub completions : CompletionsStand d lists p given v' cq
 
 module _ (d : Lines) (programs : List (List Call)) (w : Actors) (t cq : ℕ) where
@@ -150,15 +142,15 @@ module _ (d : Lines) (programs : List (List Call)) (w : Actors) (t cq : ℕ) whe
     queue_stands queue lives =
         let h = stands.bare.state.queues queue lives in
         let words = move.words queue in
-        let same = move.verbs.queues queue in
+        let same = move.verbs in
         record {
-          posted = coe 1 0 (i. Match (IsItem d queue) (words.requests i) (same.posted i ++ s.written queue)) h.posted;
-          rung = words.rung ∙ h.rung ∙ sym (ap length same.posted);
-          taken = same.taken ∙ h.taken ∙ sym words.taken;
+          posted = coe 1 0 (i. Match (IsItem d queue) (words.requests i) (same.posted i queue ++ s.written queue)) h.posted;
+          rung = words.rung ∙ h.rung ∙ sym (ap (λ (posted : Queue → List Item). length (posted queue)) same.posted);
+          taken = ap (λ (x : Device). x.taken queue) same.device ∙ h.taken ∙ sym words.taken;
           retired = move.retired queue lives;
-          room = same.room ∙ h.room;
-          segments = same.segments ∙ h.segments;
-          told = h.told ∙ sym same.posted;
+          room = ap (λ (x : Limits). x.room queue) same.limits ∙ h.room;
+          segments = ap (λ (x : Limits). x.segments queue) same.limits ∙ h.segments;
+          told = h.told ∙ sym (ap (λ (posted : Queue → List Item). posted queue) same.posted);
         }
 
     grows : (qp : ℕ) → Grows (stands.lists.queues (Send qp)) (move.lists.queues (Send qp))
@@ -168,21 +160,20 @@ module _ (d : Lines) (programs : List (List Call)) (w : Actors) (t cq : ℕ) whe
     completions_stand = number_by (λ k b. Lives d (Completions k) → CompletionsStand d move.lists (if b then p else s.polls k) (if b then given else s.given k) v' k) cq (λ lives. move.completions)
         (λ k apart lives. completions_kept d stands.lists move.lists grows (s.polls k) (s.given k) v v' k (move.plain k apart) (move.others k apart) (λ qp living home. move.ends qp living (λ same. apart (sym home ∙ same))) (stands.bare.state.completions k lives))
 
-    pub stands_after : Sane (length d.qps) total v' dues' → Stands d programs total m' after v' dues'
-    stands_after sane =
+    pub stands_after : InBounds (length d.qps) total v' dues' → Stands d programs total m' after v' dues'
+    stands_after bounded =
         let b = stands.bare in
-        let was = b.sound.declared in
         subst (λ (x : View). StandsIn d programs total m' x after.threads w.adapter v' dues') (sym view_now) (record {
           lists = move.lists;
           bare = record {
             objects = move.objects;
-            state = record { queues = queue_stands; completions = completions_stand; taken = λ qp lives. b.state.taken qp lives ∙ sym (move.verbs.queues (Send qp)).taken };
+            state = record { queues = queue_stands; completions = completions_stand; taken = λ qp lives. b.state.taken qp lives ∙ sym (ap (λ (x : Device). x.taken (Send qp)) move.verbs.device) };
             threads = threads_now d programs w.threads t moved dues dues' owed.others owed.thread b.threads;
             sound = record {
-              declared = record { pairs = λ qp. move.verbs.pairs qp ∙ was.pairs qp; pair_lives = λ qp. move.verbs.pair_lives qp ∙ was.pair_lives qp; completions_live = λ k. move.verbs.completions_live k ∙ was.completions_live k };
+              declared = subst (AsDeclared d) (sym move.verbs.device) b.sound.declared;
               long = owed.long ∙ b.sound.long;
-              sane = sane;
+              bounded = bounded;
             };
           };
-          work = work_kept d stands.lists move.lists grows v v' w.adapter w.adapter.at_work move.verbs.owed stands.work;
+          work = work_kept d stands.lists move.lists grows v v' w.adapter w.adapter.at_work (ap (λ (x : Device). x.owed) move.verbs.device) stands.work;
         })

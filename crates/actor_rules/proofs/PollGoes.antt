@@ -31,7 +31,7 @@ use Rattle.actor_rules.proofs.PollNow.{poll_stands}
 use Rattle.actor_rules.proofs.PollOutcomes.{IsOngoing, Speaks}
 use Rattle.actor_rules.proofs.PollFinish.{finish}
 use Rattle.actor_rules.proofs.PollSteps.{comes}
-use Rattle.verbs_rules.specs.Sane.{Bounds}
+use Rattle.verbs_rules.specs.Within.{Bounds}
 
 module _ (d : Lines) (programs : List (List Call)) (total : Bounds) (map : IsMapped d) (m : Memory) (w : Actors) (r : Running) (x : Marked Mark) (t : ℕ) (h : Holds d programs total m w r) (tells : Tells m x.entry) where
   abbrev th : Thread
@@ -84,7 +84,7 @@ module _ (d : Lines) (programs : List (List Call)) (total : Bounds) (map : IsMap
       answers = λ xs some few. (refl, refl);
       empty = inl (record { over = λ word. refl; says = refl; answers = (refl, refl) });
       leaves = λ xs. refl;
-      goes = λ n total' v dues u others sane owes. polling_goes n total' v dues cq most sane u others owes;
+      goes = λ n total' v dues u others bounded owes. polling_goes n total' v dues cq most bounded u others owes;
     }
 
     pub in_poll : MayPoll d th cq most x → Wanted th.calls
@@ -117,7 +117,7 @@ module _ (d : Lines) (programs : List (List Call)) (total : Bounds) (map : IsMap
       answers = λ xs some few. (refl, refl, omega (arith, some, few));
       empty = inr (record { goes_on = λ word. calls_are; silent = refl });
       leaves = λ xs. refl;
-      goes = λ n total' v dues u others sane owes. draining_goes n total' v dues u cq others sane owes;
+      goes = λ n total' v dues u others bounded owes. draining_goes n total' v dues u cq others bounded owes;
     }
 
     pub in_drain : MayPoll d th cq 1 x → Wanted th.calls

@@ -13,6 +13,7 @@ use Rattle.verbs_types.specs.declared.entry.What.{What}
 use Rattle.verbs_types.specs.declared.entry.What.TheVariants.{Poll}
 use Rattle.verbs_types.specs.declared.state.Unpolled.{Unpolled}
 use Rattle.verbs_rules.specs.State.{Verbs}
+use Rattle.verbs_rules.specs.OfOne.{completions_in}
 use Rattle.owner_ring.specs.Consumer.{Consumer, next_index}
 use Rattle.cqe_format.specs.declared.completion.Cqe.{Cqe}
 use Rattle.cq_pair.specs.declared.place.CqPlace.{CqPlace}
@@ -62,7 +63,7 @@ module _ (d : Lines) (m : Memory) (around : View) (cq most : ℕ) (l : Lists) (v
   side = record { host = c; seen = seen; retirers = rs; state = states.Polling most (record { items = es }) }
 
   abbrev us : List Unpolled
-  us = (v.completions cq).unpolled
+  us = (v.unpolled cq)
 
   abbrev q : PlainQueue
   q = l.completions cq
@@ -81,7 +82,7 @@ module _ (d : Lines) (m : Memory) (around : View) (cq most : ℕ) (l : Lists) (v
     tied_with x = completions.Tied (completions_of d cq) (after_entry m e) (around.devices cq) c' x
 
     -- nothing but the host has moved
-    moves : (state : PollState) (x : PlainQueue) (given' : List Completion) → tied_with x → CompletionsIn d cq l.queues x (side_at state) given' (v.completions cq) (ends_in v) → Moves d around cq (after_entry m e) l v (side_at state) given' v
+    moves : (state : PollState) (x : PlainQueue) (given' : List Completion) → tied_with x → CompletionsIn d cq l.queues x (side_at state) given' (completions_in v cq) (ends_in v) → Moves d around cq (after_entry m e) l v (side_at state) given' v
     moves state x given' tied stands = host_moves d m around cq most l v side given now e (side_at state) given' v x (record {
       inside = inside;
       tied = tied;

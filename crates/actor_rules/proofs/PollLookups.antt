@@ -56,7 +56,7 @@ module _ (d : Lines) (m : Memory) (around : View) (cq most : ℕ) (l : Lists) (v
   q = l.queues (Send qp)
 
   abbrev us : List Unpolled
-  us = (v.completions cq).unpolled
+  us = (v.unpolled cq)
 
   -- the completion that is looked up
   looked : IsLookedUp d cq l cqe queue (slice_get us (length es))

@@ -10,6 +10,7 @@ use Rattle.verbs_types.specs.declared.declaration.Lines.{Lines}
 use Rattle.verbs_rules.specs.Family.{put}
 use Rattle.verbs_rules.specs.Same.{same_queue}
 use Rattle.verbs_rules.specs.State.{Verbs}
+use Rattle.verbs_rules.specs.OfOne.{completions_in}
 use Rattle.cq_pair.specs.Queue.{PlainQueue}
 use Rattle.cq_pair.proofs.Tied as completions
 use Rattle.counted_ring.specs.Queue as counted
@@ -38,8 +39,8 @@ use Rattle.actor_rules.proofs.PollFrame.{polled_view, Moves, SameVerbs, SameRequ
 -- what an entry keeps of the state beside one completion queue
 pub record VerbsKept (d : Lines) (cq : ℕ) (v v' : Verbs) : Type 0 where
   pub same : SameVerbs v v'
-  pub others : (k : ℕ) → k ≢ cq → v'.completions k ≡ v.completions k
-  pub ends : (qp : ℕ) → Lives d (Sends qp) → send_cq d qp ≢ cq → (v'.queues (Send qp)).ends ≡ (v.queues (Send qp)).ends
+  pub others : (k : ℕ) → k ≢ cq → completions_in v' k ≡ completions_in v k
+  pub ends : (qp : ℕ) → Lives d (Sends qp) → send_cq d qp ≢ cq → (v'.settled (Send qp)).ends ≡ (v.settled (Send qp)).ends
 
 module _ (d : Lines) (m : Memory) (around : View) (cq most : ℕ) (l : Lists) (v : Verbs) (p : PollRule) (given : List Completion) (now : PollNow d m around cq most l v p given)
     (e : BusEntry) (p' : PollRule) (given' : List Completion) (v' : Verbs) where
@@ -56,8 +57,8 @@ module _ (d : Lines) (m : Memory) (around : View) (cq most : ℕ) (l : Lists) (v
       pub tied : completions.Tied (completions_of d cq) (after_entry m e) (around.devices cq) p'.host q
       pub retirers : p'.retirers ≡ p.retirers
       pub verbs : VerbsKept d cq v v'
-      pub retired : (queue : Queue) → (v'.queues queue).retired ≡ (v.queues queue).retired
-      pub stands : CompletionsIn d cq l.queues q p' given' (v'.completions cq) (ends_in v')
+      pub retired : (queue : Queue) → (v'.settled queue).retired ≡ (v.settled queue).retired
+      pub stands : CompletionsIn d cq l.queues q p' given' (completions_in v' cq) (ends_in v')
 
     pub host_moves : HostMoves → Moves d around cq (after_entry m e) l v p' given' v'
     host_moves h = record {
@@ -69,7 +70,7 @@ module _ (d : Lines) (m : Memory) (around : View) (cq most : ℕ) (l : Lists) (v
       plain = λ k apart. put_there l.completions cq q k apart;
       others = h.verbs.others;
       ends = h.verbs.ends;
-      completions = coe 1 0 (i. CompletionsIn d cq l.queues (put_here l.completions cq q i) p' given' (v'.completions cq) (ends_in v')) h.stands;
+      completions = coe 1 0 (i. CompletionsIn d cq l.queues (put_here l.completions cq q i) p' given' (completions_in v' cq) (ends_in v')) h.stands;
     }
       where
         same_at : (o : Object) → Lives d o → o ≢ Completions cq → sides d now_around lists_with o ≡ sides d around l o
@@ -91,8 +92,8 @@ module _ (d : Lines) (m : Memory) (around : View) (cq most : ℕ) (l : Lists) (v
       pub retirers : p'.retirers ≡ slice_set p.retirers (place_in d cq qp) side
       pub requests_same : SameRequests (l.queues (Send qp)) q
       pub verbs : VerbsKept d cq v v'
-      pub retired : (v'.queues (Send qp)).retired ≡ q.retired
-      pub retired_others : (queue : Queue) → queue ≢ Send qp → (v'.queues queue).retired ≡ (v.queues queue).retired
+      pub retired : (v'.settled (Send qp)).retired ≡ q.retired
+      pub retired_others : (queue : Queue) → queue ≢ Send qp → (v'.settled queue).retired ≡ (v.settled queue).retired
       pub stands : CompletionsStand d l p' given' v' cq
 
     pub queue_moves : QueueMoves → Moves d around cq (after_entry m e) l v p' given' v'
@@ -102,7 +103,7 @@ module _ (d : Lines) (m : Memory) (around : View) (cq most : ℕ) (l : Lists) (v
           (coe 1 0 (i. requests.Tied (send_of d qp) (after_entry m e) (around.posters (Send qp)) (side_now i) (around.readers qp) (queue_here l.queues (Send qp) q i)) h.tied);
       words = words_same;
       verbs = h.verbs.same;
-      retired = λ queue lives. queue_cases (λ other x. QueueLives d other → (v'.queues other).retired ≡ x.retired) l.queues (Send qp) q (λ live. h.retired) (λ other apart live. h.retired_others other apart ∙ now.retired other live) queue lives;
+      retired = λ queue lives. queue_cases (λ other x. QueueLives d other → (v'.settled other).retired ≡ x.retired) l.queues (Send qp) q (λ live. h.retired) (λ other apart live. h.retired_others other apart ∙ now.retired other live) queue lives;
       plain = λ k apart. refl;
       others = h.verbs.others;
       ends = h.verbs.ends;

@@ -28,7 +28,8 @@ use Rattle.actor_rules.proofs.View.{View, view, poll_given}
 use Rattle.actor_rules.proofs.PollDues.{shown_for}
 use Rattle.actor_rules.specs.Polling.{place_in, begun, poll_now}
 use Rattle.actor_rules.specs.Actors.{Actors}
-use Rattle.verbs_rules.specs.Sane.{Bounds, Climbs, IsHomed, into, numbers_in, completed_by}
+use Rattle.verbs_rules.specs.Sane.{Climbs, IsHomed, numbers_in, completed_by}
+use Rattle.verbs_rules.specs.Within.{Bounds, into}
 use Rattle.actor_rules.proofs.Objects.{AllTiedIn, Lists, poll_side, poster_side, retirer_in, retirer_side}
 use Rattle.actor_rules.proofs.Queues.{QueueLives, QueueStands}
 use Rattle.actor_rules.proofs.Completions.{CompletionsStand, AskedFor, pending, held, ends_on}
@@ -96,13 +97,13 @@ begun_owes d cq most due more (states.Acking taken empty) = refl
 
 -- of the completions that the adapter still holds
 abbrev pub in_hand : Verbs → ℕ → List ℕ
-in_hand v qp = numbers_in qp (map completed_by v.owed)
+in_hand v qp = numbers_in qp (map completed_by v.device.owed)
 
 -- a poll of this thread, its queues and the state
 pub record PollNow (d : Lines) (m : Memory) (around : View) (cq most : ℕ) (l : Lists) (v : Verbs) (p : PollRule) (given : List Completion) : Type 0 where
   pub mapped : IsMapped d
   pub objects : AllTiedIn d m around l
-  pub retired : (queue : Queue) → QueueLives d queue → (v.queues queue).retired ≡ (l.queues queue).retired
+  pub retired : (queue : Queue) → QueueLives d queue → (v.settled queue).retired ≡ (l.queues queue).retired
   pub lives : Lives d (Completions cq)
   pub fine : IsPlace (ring_of (completions_of d cq))
   pub host_same : p.host ≡ (around.polls cq).host
@@ -112,8 +113,8 @@ pub record PollNow (d : Lines) (m : Memory) (around : View) (cq most : ℕ) (l :
   pub host : completions.Tied (completions_of d cq) m (around.devices cq) p.host (l.completions cq)
   pub sends : (qp : ℕ) → HasPlace d cq qp → requests.Tied (send_of d qp) m (around.posters (Send qp)) (retirer_in p.retirers (place_in d cq qp)) (around.readers qp) (l.queues (Send qp))
   pub low : (qp : ℕ) → HasPlace d cq qp → (l.queues (Send qp)).taken < 2 ^ 62
-  pub placed : AllByRecursion (IsPlaced d cq) (v.completions cq).unpolled
-  pub under_way : (qp : ℕ) → HasPlace d cq qp → Climbs (l.queues (Send qp)).retired ((v.queues (Send qp)).ends ++ (numbers_in qp (v.completions cq).unpolled ++ in_hand v qp)) (l.queues (Send qp)).taken
+  pub placed : AllByRecursion (IsPlaced d cq) (v.unpolled cq)
+  pub under_way : (qp : ℕ) → HasPlace d cq qp → Climbs (l.queues (Send qp)).retired ((v.settled (Send qp)).ends ++ (numbers_in qp (v.unpolled cq) ++ in_hand v qp)) (l.queues (Send qp)).taken
 
 module _ (d : Lines) (programs : List (List Call)) (total : Bounds) (m : Memory) (w : Actors) (r : Running) (t cq most : ℕ) (map : IsMapped d) (h : Holds d programs total m w r)
     (calls : List Call) (calls_are : (w.threads (suc t)).calls ≡ calls) (job : Job d programs (suc t) cq most calls) where
@@ -129,7 +130,7 @@ module _ (d : Lines) (programs : List (List Call)) (total : Bounds) (m : Memory)
       subst (λ (xs : List Completion). CompletionsStand d s.lists ((w.threads (suc t)).polls cq) xs r.verbs cq) (shown_for most (w.threads (suc t)).given ((w.threads (suc t)).polls cq).state polls.poll)
       (subst (λ (x : ℕ). CompletionsStand d s.lists ((w.threads x).polls cq) (poll_given cq (w.threads x)) r.verbs cq) job.own.owner (s.bare.state.completions cq job.own.lives))
 
-  home_is : (qp : ℕ) → HasPlace d cq qp → (r.verbs.pairs qp).send_cq ≡ cq
+  home_is : (qp : ℕ) → HasPlace d cq qp → (r.verbs.device.pairs qp).send_cq ≡ cq
   home_is qp place = ap (λ (x : QueuePair). x.send_cq) (s.bare.sound.declared.pairs qp) ∙ (living_by_place d cq qp place).1
 
   queue_now : (qp : ℕ) → HasPlace d cq qp → QueueStands d programs w r.verbs (s.lists.queues (Send qp)) (Send qp)
@@ -137,29 +138,29 @@ module _ (d : Lines) (programs : List (List Call)) (total : Bounds) (m : Memory)
 
   few : (qp : ℕ) → HasPlace d cq qp → (s.lists.queues (Send qp)).taken < 2 ^ 62
   few qp place =
-      let q = s.bare.sound.sane.queues qp in
-      let lives : r.verbs.pair_lives qp ≡ true = s.bare.sound.declared.pair_lives qp ∙ (living_by_place d cq qp place).0 in
-      let pair = s.bare.sound.sane.lives qp lives in
+      let q = s.bare.sound.bounded.sane.queues qp in
+      let lives : r.verbs.device.pair_lives qp ≡ true = s.bare.sound.declared.pair_lives qp ∙ (living_by_place d cq qp place).0 in
+      let pair = s.bare.sound.bounded.sane.lives qp lives in
       let back : FIRST_QP + (qp - FIRST_QP) ≡ qp = omega (arith, pair.least) in
-      let part : total.posts (FIRST_QP + (qp - FIRST_QP)) ≤ into r.verbs.pairs total.posts cq FIRST_QP (length d.qps) = one_part r.verbs.pairs total.posts cq FIRST_QP (length d.qps) (qp - FIRST_QP) pair.most (ap (λ i. (r.verbs.pairs i).send_cq) back ∙ home_is qp place) in
+      let part : total.posts (FIRST_QP + (qp - FIRST_QP)) ≤ into r.verbs.device.pairs total.posts cq FIRST_QP (length d.qps) = one_part r.verbs.device.pairs total.posts cq FIRST_QP (length d.qps) (qp - FIRST_QP) pair.most (ap (λ i. (r.verbs.device.pairs i).send_cq) back ∙ home_is qp place) in
       let same : total.posts (FIRST_QP + (qp - FIRST_QP)) ≡ total.posts qp = ap total.posts back in
-      let fits = (s.bare.sound.sane.completions cq).fits (s.bare.sound.declared.completions_live cq ∙ job.own.lives) in
+      let fits = (s.bare.sound.bounded.within.completions cq).fits (s.bare.sound.declared.completions_live cq ∙ job.own.lives) in
       let fine : IsPlace (ring_of (completions_of d cq)) = (map.placed d (Completions cq) map.declared job.own.lives).fine in
-      omega (arith, (queue_now qp place).taken, q.taken, q.posts, part, same, fits, stands_now.counts.size, fine.fits)
+      omega (arith, (queue_now qp place).taken, q.taken, (s.bare.sound.bounded.within.queues qp).posts, part, same, fits, stands_now.counts.size, fine.fits)
 
-  placed_one : (u : Unpolled) → IsHomed r.verbs.pair_lives r.verbs.pairs cq u → IsPlaced d cq u
+  placed_one : (u : Unpolled) → IsHomed r.verbs.device.pair_lives r.verbs.device.pairs cq u → IsPlaced d cq u
   placed_one u homed = record {
     queue = homed.queue;
     place = place_by_living d cq u.completion.qp (sym (s.bare.sound.declared.pair_lives u.completion.qp) ∙ homed.living) (sym (ap (λ (x : QueuePair). x.send_cq) (s.bare.sound.declared.pairs u.completion.qp)) ∙ homed.home);
   }
 
-  waits : (qp : ℕ) → HasPlace d cq qp → Climbs (s.lists.queues (Send qp)).retired ((r.verbs.queues (Send qp)).ends ++ (numbers_in qp (r.verbs.completions cq).unpolled ++ in_hand r.verbs qp)) (s.lists.queues (Send qp)).taken
+  waits : (qp : ℕ) → HasPlace d cq qp → Climbs (s.lists.queues (Send qp)).retired ((r.verbs.settled (Send qp)).ends ++ (numbers_in qp (r.verbs.unpolled cq) ++ in_hand r.verbs qp)) (s.lists.queues (Send qp)).taken
   waits qp place =
       let q = queue_now qp place in
-      let ns : List ℕ = (r.verbs.queues (Send qp)).ends ++ (numbers_in qp (r.verbs.completions cq).unpolled ++ in_hand r.verbs qp) in
+      let ns : List ℕ = (r.verbs.settled (Send qp)).ends ++ (numbers_in qp (r.verbs.unpolled cq) ++ in_hand r.verbs qp) in
       subst (λ (k : ℕ). Climbs k ns (s.lists.queues (Send qp)).taken) q.retired
-      (subst (λ (k : ℕ). Climbs (r.verbs.queues (Send qp)).retired ns k) q.taken
-      (subst (λ (k : ℕ). Climbs (r.verbs.queues (Send qp)).retired ((r.verbs.queues (Send qp)).ends ++ (numbers_in qp (r.verbs.completions k).unpolled ++ in_hand r.verbs qp)) (r.verbs.queues (Send qp)).taken) (home_is qp place) (s.bare.sound.sane.queues qp).under_way))
+      (subst (λ (k : ℕ). Climbs (r.verbs.settled (Send qp)).retired ns k) q.taken
+      (subst (λ (k : ℕ). Climbs (r.verbs.settled (Send qp)).retired ((r.verbs.settled (Send qp)).ends ++ (numbers_in qp (r.verbs.unpolled k) ++ in_hand r.verbs qp)) (r.verbs.device.taken (Send qp))) (home_is qp place) (s.bare.sound.bounded.sane.queues qp).under_way))
 
   sends_now : (qp : ℕ) → HasPlace d cq qp → requests.Tied (send_of d qp) m (poster_side programs w (Send qp)) (retirer_in ((w.threads (suc t)).polls cq).retirers (place_in d cq qp)) (w.adapter.readers qp) (s.lists.queues (Send qp))
   sends_now qp place =
@@ -182,6 +183,6 @@ module _ (d : Lines) (programs : List (List Call)) (total : Bounds) (m : Memory)
         host = subst (λ (p : PollRule). completions.Tied (completions_of d cq) m (w.adapter.queues cq) p.host (s.lists.completions cq)) side_is (s.bare.objects (Completions cq) job.own.lives);
         sends = sends_now;
         low = few;
-        placed = all_by (IsHomed r.verbs.pair_lives r.verbs.pairs cq) (IsPlaced d cq) placed_one (r.verbs.completions cq).unpolled (s.bare.sound.sane.completions cq).homed;
+        placed = all_by (IsHomed r.verbs.device.pair_lives r.verbs.device.pairs cq) (IsPlaced d cq) placed_one (r.verbs.unpolled cq) (s.bare.sound.bounded.sane.completions cq).homed;
         under_way = waits;
       }

@@ -20,9 +20,9 @@ use Rattle.provider_poll.specs.declared.state.PollState.TheVariants as states
 use Rattle.provider_poll.specs.Rule.{PollRule}
 use Rattle.actor_rules.specs.Polling.{given_after}
 use Rattle.actor_rules.specs.Dues.{is_storing, store_dues}
-use Rattle.verbs_rules.specs.Sane.{Bounds, Sane}
+use Rattle.verbs_rules.specs.Within.{Bounds, InBounds}
 use Rattle.verbs_rules.specs.Proper.{Owes}
-use Rattle.verbs_rules.specs.Sane as sane
+use Rattle.verbs_rules.specs.Within as within
 use Rattle.verbs_laws.proofs.GoesSettle.{ends_owed}
 use Rattle.verbs_laws.proofs.Waiting.{completion_in}
 use Rattle.actor_rules.proofs.View.{View}
@@ -42,7 +42,7 @@ module _ (d : Lines) (m : Memory) (around : View) (cq most : ℕ) (l : Lists) (v
 
   -- the completions that the poll's entry tells of
   abbrev pub polled : List Unpolled
-  polled = take most (v.completions cq).unpolled
+  polled = take most (v.unpolled cq)
 
   -- a load after which the poll goes on
   pub record Loads (now : PollRule) (answer : Step Completion PollAnswer) (said : Option What) : Type 0 where
@@ -69,7 +69,7 @@ module _ (d : Lines) (m : Memory) (around : View) (cq most : ℕ) (l : Lists) (v
     pub word : Option ℕ
     pub over : answer ≡ Done (Polled 0 word)
     pub says : said ≡ Some (Poll cq most [])
-    pub none : (v.completions cq).unpolled ≡ []
+    pub none : (v.unpolled cq) ≡ []
     pub before : is_storing p.state ≡ false
     pub idle : now.state ≡ states.Idle
     pub moved : moves now [] v
@@ -79,7 +79,7 @@ module _ (d : Lines) (m : Memory) (around : View) (cq most : ℕ) (l : Lists) (v
     pub qp : ℕ
     pub number : ℕ
     pub others : List ℕ
-    pub first : (v.queues (Send qp)).ends ≡ number ∷ others
+    pub first : (v.settled (Send qp)).ends ≡ number ∷ others
     pub more : answer ≡ More
     pub says : said ≡ Some (Retire (Send qp) number)
     pub polls : IsPollFor most given now.state
@@ -94,11 +94,11 @@ module _ (d : Lines) (m : Memory) (around : View) (cq most : ℕ) (l : Lists) (v
     pub word : Option ℕ
     pub some : 0 < taken
     pub over : answer ≡ Done (Polled taken word)
-    pub says : said ≡ Some (Ack cq ((v.completions cq).produced - length (v.completions cq).unpolled))
+    pub says : said ≡ Some (Ack cq ((v.device.produced cq) - length (v.unpolled cq)))
     pub before : is_storing p.state ≡ true
     pub idle : now.state ≡ states.Idle
     pub owed : store_dues d cq p.state ≡ Acking cq ∷ []
-    pub moved : moves now [] (after v (Ack cq ((v.completions cq).produced - length (v.completions cq).unpolled)))
+    pub moved : moves now [] (after v (Ack cq ((v.device.produced cq) - length (v.unpolled cq))))
 
   pub data Outcome (now : PollRule) (answer : Step Completion PollAnswer) (said : Option What) : Type 0 where
     GoesOn : Loads now answer said → Outcome now answer said
@@ -129,5 +129,5 @@ pub record Speaks (d : Lines) (programs : List (List Call)) (x cq most : ℕ) (c
   -- a look that finds none ends a poll's call, and a drain looks again
   pub empty : TellsNone job calls_after speak ⊎ LooksAgain job calls_after speak
   pub leaves : (xs : List Completion) → left_by job.due (Poll cq most xs) ≡ settling cq xs
-  pub goes : (n : ℕ) (total : Bounds) (v : Verbs) (dues : List (List Due)) (t : ℕ) (rest : List Due) → Sane n total v dues → Owes dues t job.due rest
-      → sane.Goes n total v (suc t) (Poll cq most (map completion_in (take most (v.completions cq).unpolled))) (slice_set dues t (ends_owed cq (take most (v.completions cq).unpolled) ++ rest))
+  pub goes : (n : ℕ) (total : Bounds) (v : Verbs) (dues : List (List Due)) (t : ℕ) (rest : List Due) → InBounds n total v dues → Owes dues t job.due rest
+      → within.Goes n total v (suc t) (Poll cq most (map completion_in (take most (v.unpolled cq)))) (slice_set dues t (ends_owed cq (take most (v.unpolled cq)) ++ rest))

@@ -75,14 +75,14 @@ module _ (d : Lines) (m : Memory) (around : View) (cq most : ℕ) (l : Lists) (v
 
   -- where no end is to be stored, the unpolled completions of a queue pair are those next to be retired
   module _ (fresh : pending p.state ≡ []) where
-    pub climbs_now : (qp : ℕ) → HasPlace d cq qp → Climbs (l.queues (Send qp)).retired (numbers_in qp (v.completions cq).unpolled ++ in_hand v qp) (l.queues (Send qp)).taken
+    pub climbs_now : (qp : ℕ) → HasPlace d cq qp → Climbs (l.queues (Send qp)).retired (numbers_in qp (v.unpolled cq) ++ in_hand v qp) (l.queues (Send qp)).taken
     climbs_now qp place =
         let lives = living_by_place d cq qp place in
-        let none : (v.queues (Send qp)).ends ≡ [] = now.stands.ends qp lives.0 lives.1 ∙ ap (λ (xs : List End). ends_on (place_in d cq qp) xs) fresh in
-        subst (λ (ns : List ℕ). Climbs (l.queues (Send qp)).retired (ns ++ (numbers_in qp (v.completions cq).unpolled ++ in_hand v qp)) (l.queues (Send qp)).taken) none (now.under_way qp place)
+        let none : (v.settled (Send qp)).ends ≡ [] = now.stands.ends qp lives.0 lives.1 ∙ ap (λ (xs : List End). ends_on (place_in d cq qp) xs) fresh in
+        subst (λ (ns : List ℕ). Climbs (l.queues (Send qp)).retired (ns ++ (numbers_in qp (v.unpolled cq) ++ in_hand v qp)) (l.queues (Send qp)).taken) none (now.under_way qp place)
 
-    pub later_now : (k : ℕ) (u : Unpolled) → slice_get (v.completions cq).unpolled k ≡ Some u → IsPlaced d cq u → (l.queues (Send u.completion.qp)).retired < u.number
-    later_now k u there placed = number_above u.completion.qp (l.queues (Send u.completion.qp)).taken (in_hand v u.completion.qp) (l.queues (Send u.completion.qp)).retired (v.completions cq).unpolled k u there placed.queue (climbs_now u.completion.qp placed.place)
+    pub later_now : (k : ℕ) (u : Unpolled) → slice_get (v.unpolled cq) k ≡ Some u → IsPlaced d cq u → (l.queues (Send u.completion.qp)).retired < u.number
+    later_now k u there placed = number_above u.completion.qp (l.queues (Send u.completion.qp)).taken (in_hand v u.completion.qp) (l.queues (Send u.completion.qp)).retired (v.unpolled cq) k u there placed.queue (climbs_now u.completion.qp placed.place)
 
 -- Lists that are taken from
 

@@ -12,7 +12,7 @@ use Rattle.verbs_types.specs.declared.declaration.Lines.{Lines}
 use Rattle.verbs_types.specs.declared.entry.What.TheVariants.{Retire as RetireEntry}
 use Rattle.verbs_rules.specs.Answered.{Due, Retiring, Acking}
 use Rattle.verbs_rules.specs.Rows as rows
-use Rattle.verbs_rules.specs.State.{WorkQueue, Verbs}
+use Rattle.verbs_rules.specs.State.{Verbs, Settled}
 use Rattle.verbs_rules.specs.Step.{after}
 use Rattle.owner_ring.specs.Consumer.{Consumer}
 use Rattle.counted_ring.specs.Mark.{WqMark, Retire}
@@ -40,7 +40,6 @@ use Rattle.actor_rules.proofs.Objects.{Lists, retirer_in}
 use Rattle.actor_rules.proofs.Completions.{CompletionsStand, PollStands, IsPending, AskedFor, held, pending, ends_on}
 use Rattle.actor_rules.proofs.Threads.{IsPollFor}
 use Rattle.actor_rules.proofs.PollPlaces.{HasPlace, place_of_position, same_pair, living_by_place, place_by_living}
-use Rattle.actor_rules.proofs.PollFrame.{SameWork, work_refl}
 use Rattle.actor_rules.proofs.PollLists.{all_by, may_be_stored}
 use Rattle.actor_rules.proofs.PollNow.{PollNow, in_hand}
 use Rattle.actor_rules.proofs.PollOutcomes.{Outcome, Stores}
@@ -67,44 +66,38 @@ module _ (d : Lines) (m : Memory) (around : View) (cq most : ℕ) (l : Lists) (v
   abbrev v' : Verbs
   v' = after v (RetireEntry (Send qp) x.end)
 
-  abbrev u : WorkQueue
-  u = v.queues (Send qp)
+  abbrev settled_now : Settled
+  settled_now = record { retired = x.end; ends = rows.rest_of (v.settled (Send qp)).ends }
 
   -- The ends of each queue
 
   -- this queue's first end is the one that is stored
-  first_is : u.ends ≡ x.end ∷ ends_on (place_in d cq qp) xs
+  first_is : (v.settled (Send qp)).ends ≡ x.end ∷ ends_on (place_in d cq qp) xs
   first_is =
       let lives = living_by_place d cq qp place in
       now.stands.ends qp lives.0 lives.1 ∙ ap (λ (b : Bool). if b then x.end ∷ ends_on (place_in d cq qp) xs else ends_on (place_in d cq qp) xs) (eq-eqb x.queue (place_in d cq qp) (sym is_here))
 
   -- and it is none of another's
-  others_are : (i : ℕ) → HasPlace d cq i → place_in d cq i ≢ place_in d cq qp → (v.queues (Send i)).ends ≡ ends_on (place_in d cq i) xs
+  others_are : (i : ℕ) → HasPlace d cq i → place_in d cq i ≢ place_in d cq qp → (v.settled (Send i)).ends ≡ ends_on (place_in d cq i) xs
   others_are i h apart =
       let lives = living_by_place d cq i h in
       now.stands.ends i lives.0 lives.1 ∙ ap (λ (b : Bool). if b then x.end ∷ ends_on (place_in d cq i) xs else ends_on (place_in d cq i) xs) (differs x.queue (place_in d cq i) (λ same. apart (sym (is_here ∙ same))))
 
-  ends_then : (i : ℕ) → Lives d (Sends i) → send_cq d i ≡ cq → (v'.queues (Send i)).ends ≡ ends_on (place_in d cq i) xs
+  ends_then : (i : ℕ) → Lives d (Sends i) → send_cq d i ≡ cq → (v'.settled (Send i)).ends ≡ ends_on (place_in d cq i) xs
   ends_then i lives home = elim (either i qp) [
     | inl same ↦
-        subst (λ (j : ℕ). (v'.queues (Send j)).ends ≡ ends_on (place_in d cq j) xs) (sym same)
-        (ap (λ (k : WorkQueue). k.ends) (queue_here v.queues (Send qp) (rows.retire u x.end)) ∙ ap rows.rest_of first_is)
+        subst (λ (j : ℕ). (v'.settled (Send j)).ends ≡ ends_on (place_in d cq j) xs) (sym same)
+        (ap (λ (k : Settled). k.ends) (queue_here v.settled (Send qp) settled_now) ∙ ap rows.rest_of first_is)
     | inr apart ↦
         let h : HasPlace d cq i = place_by_living d cq i lives home in
-        ap (λ (k : WorkQueue). k.ends) (queue_there v.queues (Send qp) (rows.retire u x.end) (Send i) (λ same. apart cc)) ∙ others_are i h (λ one. apart (same_pair d cq i qp h place one))
+        ap (λ (k : Settled). k.ends) (queue_there v.settled (Send qp) settled_now (Send i) (λ same. apart cc)) ∙ others_are i h (λ one. apart (same_pair d cq i qp h place one))
   ]
 
   retired_keeps : VerbsKept d cq v v'
   retired_keeps = record {
-    same = record {
-      queues = queue_cases (λ other k. SameWork (v.queues other) k) v.queues (Send qp) (rows.retire u x.end) (record { room = refl; segments = refl; posted = refl; taken = refl }) (λ other apart. work_refl (v.queues other));
-      pairs = λ i. refl;
-      pair_lives = λ i. refl;
-      completions_live = λ k. refl;
-      owed = refl;
-    };
+    same = record { limits = refl; posted = refl; device = refl };
     others = λ k apart. refl;
-    ends = λ i lives away. ap (λ (k : WorkQueue). k.ends) (queue_there v.queues (Send qp) (rows.retire u x.end) (Send i) (λ same. let one : i ≡ qp = cc in away (ap (send_cq d) one ∙ (living_by_place d cq qp place).1)));
+    ends = λ i lives away. ap (λ (k : Settled). k.ends) (queue_there v.settled (Send qp) settled_now (Send i) (λ same. let one : i ≡ qp = cc in away (ap (send_cq d) one ∙ (living_by_place d cq qp place).1)));
   }
 
   -- The ends that are left
@@ -125,18 +118,18 @@ module _ (d : Lines) (m : Memory) (around : View) (cq most : ℕ) (l : Lists) (v
       let finds = finds_now d m around cq most l v side given now h.qp its in
       let found : y.end ≤ (retirer_in rs (place_in d cq h.qp)).found = subst (λ (i : ℕ). y.end ≤ (retirer_in rs i).found) h.queue h.found in
       let mine_is : ends_on (place_in d cq h.qp) xs ≡ y.end ∷ ends_on (place_in d cq h.qp) ys = ap (ends_on (place_in d cq h.qp)) xs_are ∙ ap (λ (b : Bool). if b then y.end ∷ ends_on (place_in d cq h.qp) ys else ends_on (place_in d cq h.qp) ys) (eq-eqb y.queue (place_in d cq h.qp) h.queue) in
-      let more : List ℕ = numbers_in h.qp (v.completions cq).unpolled ++ in_hand v h.qp in
+      let more : List ℕ = numbers_in h.qp (v.unpolled cq) ++ in_hand v h.qp in
       may_be_stored d cq h.qp rs' y (sides_long d m around cq most l v side given now e qp place stored) its h.queue (record {
         idle = none_asked (place_in d cq h.qp);
         later = elim (either (place_in d cq h.qp) (place_in d cq qp)) [
           | inl same ↦
               let one : h.qp ≡ qp = same_pair d cq h.qp qp its place same in
-              let both : (v.queues (Send h.qp)).ends ≡ x.end ∷ y.end ∷ ends_on (place_in d cq h.qp) ys = ap (λ (i : ℕ). (v.queues (Send i)).ends) one ∙ first_is ∙ ap (λ (ns : List ℕ). x.end ∷ ns) (ap (λ (i : ℕ). ends_on i xs) (sym same) ∙ mine_is) in
+              let both : (v.settled (Send h.qp)).ends ≡ x.end ∷ y.end ∷ ends_on (place_in d cq h.qp) ys = ap (λ (i : ℕ). (v.settled (Send i)).ends) one ∙ first_is ∙ ap (λ (ns : List ℕ). x.end ∷ ns) (ap (λ (i : ℕ). ends_on i xs) (sym same) ∙ mine_is) in
               let climbs : Climbs (l.queues (Send h.qp)).retired (x.end ∷ y.end ∷ ends_on (place_in d cq h.qp) ys ++ more) (l.queues (Send h.qp)).taken = subst (λ (ns : List ℕ). Climbs (l.queues (Send h.qp)).retired (ns ++ more) (l.queues (Send h.qp)).taken) both (now.under_way h.qp its) in
               let tail : (retirer_in rs' (place_in d cq h.qp)).tail ≡ x.end = ap (λ (i : ℕ). (retirer_in rs' i).tail) same ∙ ap (λ (r : Retirer). r.tail) (side_here d m around cq most l v side given now e qp place stored) in
               omega (arith, tail, climbs.1.0)
           | inr apart ↦
-              let one : (v.queues (Send h.qp)).ends ≡ y.end ∷ ends_on (place_in d cq h.qp) ys = others_are h.qp its apart ∙ mine_is in
+              let one : (v.settled (Send h.qp)).ends ≡ y.end ∷ ends_on (place_in d cq h.qp) ys = others_are h.qp its apart ∙ mine_is in
               let climbs : Climbs (l.queues (Send h.qp)).retired (y.end ∷ ends_on (place_in d cq h.qp) ys ++ more) (l.queues (Send h.qp)).taken = subst (λ (ns : List ℕ). Climbs (l.queues (Send h.qp)).retired (ns ++ more) (l.queues (Send h.qp)).taken) one (now.under_way h.qp its) in
               let tail : (retirer_in rs' (place_in d cq h.qp)).tail ≡ (retirer_in rs (place_in d cq h.qp)).tail = ap (λ (r : Retirer). r.tail) (side_there d m around cq most l v side given now e qp place stored (place_in d cq h.qp) apart) in
               omega (arith, tail, finds.tail, climbs.0)
@@ -161,7 +154,7 @@ module _ (d : Lines) (m : Memory) (around : View) (cq most : ℕ) (l : Lists) (v
           low = s.low;
           unpolled = s.unpolled;
           reads = s.reads;
-          poll = polls (v.completions cq).unpolled;
+          poll = polls (v.unpolled cq);
           retirers = sides_long d m around cq most l v side given now e qp place stored;
           asked = λ i. subst (AskedFor state i) (sym (none_asked i)) (asks i);
           ends = λ i lives home. ends_then i lives home ∙ ap (λ (ys : List End). ends_on (place_in d cq i) ys) (sym left_is);
@@ -191,8 +184,8 @@ module _ (d : Lines) (m : Memory) (around : View) (cq most : ℕ) (l : Lists) (v
             retirers = refl;
             requests_same = record { requests = refl; next = refl; rung = refl; taken = refl };
             verbs = retired_keeps;
-            retired = ap (λ (k : WorkQueue). k.retired) (queue_here v.queues (Send qp) (rows.retire u x.end));
-            retired_others = λ other apart. ap (λ (k : WorkQueue). k.retired) (queue_there v.queues (Send qp) (rows.retire u x.end) other apart);
+            retired = ap (λ (k : Settled). k.retired) (queue_here v.settled (Send qp) settled_now);
+            retired_others = λ other apart. ap (λ (k : Settled). k.retired) (queue_there v.settled (Send qp) settled_now other apart);
             stands = stands_then;
           });
         })

@@ -11,7 +11,8 @@ use Rattle.verbs_types.specs.declared.state.Unpolled.{Unpolled}
 use Rattle.verbs_rules.specs.Rows.{end, end_all}
 use Rattle.verbs_rules.specs.Family.{put}
 use Rattle.verbs_rules.specs.Same.{same_queue}
-use Rattle.verbs_rules.specs.State.{WorkQueue, Verbs}
+use Rattle.verbs_rules.specs.State.{Verbs, Settled}
+use Rattle.verbs_rules.specs.OfOne.{completions_in}
 use Rattle.verbs_rules.specs.Step.{after}
 use Rattle.owner_ring.specs.Consumer.{Consumer, next_index}
 use Rattle.cqe_format.specs.declared.completion.Cqe.{Cqe}
@@ -38,7 +39,7 @@ use Rattle.actor_rules.proofs.PerQueue.{queue_cases}
 -- The state
 
 -- an entry of a poll adds ends, and leaves all else of the work queues
-end_all_keeps : {B : Type 0} (f : WorkQueue → B) → ((u : WorkQueue) (n : ℕ) → f (end u n) ≡ f u) → (queues : Queue → WorkQueue) (xs : List Completion) (us : List Unpolled) (queue : Queue) → f (end_all queues xs us queue) ≡ f (queues queue)
+end_all_keeps : {B : Type 0} (f : Settled → B) → ((u : Settled) (n : ℕ) → f (end u n) ≡ f u) → (queues : Queue → Settled) (xs : List Completion) (us : List Unpolled) (queue : Queue) → f (end_all queues xs us queue) ≡ f (queues queue)
 end_all_keeps f keeps queues [] us queue = refl
 end_all_keeps f keeps queues (x ∷ xs) [] queue = refl
 end_all_keeps f keeps queues (x ∷ xs) (u ∷ us) queue =
@@ -57,9 +58,9 @@ placed_take P zero us h = tt
 placed_take P (suc n) [] h = tt
 placed_take P (suc n) (u ∷ us) h = (h.0, placed_take P n us h.1)
 
-module _ (d : Lines) (cq most : ℕ) (v : Verbs) (placed : AllByRecursion (IsPlaced d cq) (v.completions cq).unpolled) where
+module _ (d : Lines) (cq most : ℕ) (v : Verbs) (placed : AllByRecursion (IsPlaced d cq) (v.unpolled cq)) where
   abbrev us : List Unpolled
-  us = (v.completions cq).unpolled
+  us = v.unpolled cq
 
   abbrev xs : List Completion
   xs = map completion_in (take most us)
@@ -71,14 +72,14 @@ module _ (d : Lines) (cq most : ℕ) (v : Verbs) (placed : AllByRecursion (IsPla
   pub taken_placed : AllByRecursion (IsPlaced d cq) (take most us)
   taken_placed = placed_take (IsPlaced d cq) most us placed
 
-  told_queue : (i : ℕ) → told.queues (Send i) ≡ record (v.queues (Send i)) { ends = (v.queues (Send i)).ends ++ numbers_in i (take most us) }
-  told_queue i = ap (λ (ys : List Unpolled). end_all v.queues xs ys (Send i)) (sym (take-append-drop most us)) ∙ ended_at v.queues (take most us) (drop most us) i
+  told_settled : (i : ℕ) → told.settled (Send i) ≡ record (v.settled (Send i)) { ends = (v.settled (Send i)).ends ++ numbers_in i (take most us) }
+  told_settled i = ap (λ (ys : List Unpolled). end_all v.settled xs ys (Send i)) (sym (take-append-drop most us)) ∙ ended_at v.settled (take most us) (drop most us) i
 
-  pub told_ends : (i : ℕ) → (told.queues (Send i)).ends ≡ (v.queues (Send i)).ends ++ numbers_in i (take most us)
-  told_ends i = ap (λ (u : WorkQueue). u.ends) (told_queue i)
+  pub told_ends : (i : ℕ) → (told.settled (Send i)).ends ≡ (v.settled (Send i)).ends ++ numbers_in i (take most us)
+  told_ends i = ap (λ (u : Settled). u.ends) (told_settled i)
 
-  pub told_retired : (queue : Queue) → (told.queues queue).retired ≡ (v.queues queue).retired
-  told_retired queue = end_all_keeps (λ u. u.retired) (λ u n. refl) v.queues xs us queue
+  pub told_retired : (queue : Queue) → (told.settled queue).retired ≡ (v.settled queue).retired
+  told_retired queue = end_all_keeps (λ u. u.retired) (λ u n. refl) v.settled xs us queue
 
   no_more : (ns ms : List ℕ) → ms ≡ [] → ns ++ ms ≡ ns
   no_more ns ms none = ap (λ (ks : List ℕ). ns ++ ks) none ∙ right ns
@@ -89,24 +90,13 @@ module _ (d : Lines) (cq most : ℕ) (v : Verbs) (placed : AllByRecursion (IsPla
 
   pub told_keeps : VerbsKept d cq v told
   told_keeps = record {
-    same = record {
-      queues = λ queue. record {
-        room = end_all_keeps (λ u. u.room) (λ u n. refl) v.queues xs us queue;
-        segments = end_all_keeps (λ u. u.segments) (λ u n. refl) v.queues xs us queue;
-        posted = end_all_keeps (λ u. u.posted) (λ u n. refl) v.queues xs us queue;
-        taken = end_all_keeps (λ u. u.taken) (λ u n. refl) v.queues xs us queue;
-      };
-      pairs = λ qp. refl;
-      pair_lives = λ qp. refl;
-      completions_live = λ k. refl;
-      owed = refl;
-    };
-    others = λ k apart. put_there v.completions cq (record (v.completions cq) { unpolled = drop (length xs) us }) k apart;
-    ends = λ qp lives away. told_ends qp ∙ no_more (v.queues (Send qp)).ends (numbers_in qp (take most us)) (numbers_away d cq qp (take most us) taken_placed away);
+    same = record { limits = refl; posted = refl; device = refl };
+    others = λ k apart i. record (completions_in v k) { unpolled = put_there v.unpolled cq (drop (length xs) us) k apart i };
+    ends = λ qp lives away. told_ends qp ∙ no_more (v.settled (Send qp)).ends (numbers_in qp (take most us)) (numbers_away d cq qp (take most us) taken_placed away);
   }
 
-  told_completions : told.completions cq ≡ record (v.completions cq) { unpolled = drop (length xs) us }
-  told_completions = put_here v.completions cq (record (v.completions cq) { unpolled = drop (length xs) us })
+  told_completions : completions_in told cq ≡ record (completions_in v cq) { unpolled = drop (length xs) us }
+  told_completions = λ i. record (completions_in v cq) { unpolled = put_here v.unpolled cq (drop (length xs) us) i }
 
   -- The poll that has told it, and stores these ends
 

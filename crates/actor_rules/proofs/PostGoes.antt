@@ -15,7 +15,8 @@ use Rattle.verbs_types.specs.declared.request.Item.{Item}
 use Rattle.verbs_rules.specs.Answered.{Due, Posting, Accepting, Answers, MayAnswer, left_by, after_answer, due_by}
 use Rattle.verbs_rules.specs.Family.{put}
 use Rattle.verbs_rules.specs.Rows as rows
-use Rattle.verbs_rules.specs.State.{Verbs, WorkQueue}
+use Rattle.verbs_rules.specs.State.{Verbs}
+use Rattle.verbs_rules.specs.OfOne.{queue_in}
 use Rattle.verbs_rules.specs.Step.{MayStep, after}
 use Rattle.verbs_rules.specs.Running.{Running, after_turn}
 use Rattle.counted_ring.specs.declared.place.WqPlace.{WqPlace}
@@ -37,7 +38,7 @@ use Rattle.actor_rules.specs.Posting.{MayPost, after_post, calls_after_post, pos
 use Rattle.actor_rules.specs.Actors.{Actors, by, posted_with}
 use Rattle.actor_rules.specs.Dues.{dues_at, post_dues}
 use Rattle.verbs_rules.specs.Proper as proper
-use Rattle.verbs_rules.specs.Sane as verbs
+use Rattle.verbs_rules.specs.Within as verbs
 use Rattle.actor_rules.proofs.Dues.{dues_at-set}
 use Rattle.actor_rules.proofs.Growing.{Grows, grows_refl, grows_event}
 use Rattle.actor_rules.proofs.Matching.{Match, match_push, match_length}
@@ -52,7 +53,7 @@ use Rattle.actor_rules.proofs.PostCalls.{now_of, dues_begun, accepted_begun, pos
 use Rattle.actor_rules.proofs.PostLegal.{CanPost, whole_goes, part_goes, full_goes}
 use Rattle.actor_rules.proofs.PostEnds.{ends, ends_open, ends_refused, ends_rung, ends_registered}
 use Rattle.actor_rules.proofs.PostOutcome.{Outcome, GoesOn, Writes, Refuses, Rings, Registers, comes_to}
-use Rattle.verbs_rules.specs.Sane.{Bounds}
+use Rattle.verbs_rules.specs.Within.{Bounds}
 
 -- a list that has an item
 abbrev is_some_list : List Due → Type 0
@@ -195,15 +196,15 @@ module _ (d : Lines) (programs : List (List Call)) (total : Bounds) (map : IsMap
   actors thread posted = record { adapter = w.adapter; threads = put_number w.threads (suc t) thread; posted = posted }
 
   -- what the operation made, where the call has come so far
-  abbrev Made : Option post.Call → List Call → counted.Queue → WorkQueue → List Item → List (List Due) → Type 0
-  Made posting' calls q' u told dues = Posts d programs total map m w v holds.dues stands t queue lives owner x.entry poster' posting' calls q' u told dues
+  abbrev Made : Option post.Call → List Call → counted.Queue → List Item → List Item → List (List Due) → Type 0
+  Made posting' calls q' list told dues = Posts d programs total map m w v holds.dues stands t queue lives owner x.entry poster' posting' calls q' list told dues
 
   -- the queue with these requests, where so much is written
-  queue_with : (posting' : Option post.Call) (calls : List Call) (q' : counted.Queue) (items' : List Item) → written_in queue posting' calls ≡ items' → Match (IsItem d queue) q'.requests ((v.queues queue).posted ++ items') → q'.rung ≡ q.rung → q'.taken ≡ q.taken → q'.retired ≡ q.retired
-      → QueueIs d (written_in queue posting' calls) (w.posted queue) (v.queues queue) q' queue
+  queue_with : (posting' : Option post.Call) (calls : List Call) (q' : counted.Queue) (items' : List Item) → written_in queue posting' calls ≡ items' → Match (IsItem d queue) q'.requests ((v.posted queue) ++ items') → q'.rung ≡ q.rung → q'.taken ≡ q.taken → q'.retired ≡ q.retired
+      → QueueIs d (written_in queue posting' calls) (w.posted queue) (queue_in v queue) q' queue
   queue_with posting' calls q' items' is matched rung taken retired =
       let old = stands.bare.state.queues queue lives in record {
-        posted = subst (λ (list : List Item). Match (IsItem d queue) q'.requests ((v.queues queue).posted ++ list)) (sym is) matched;
+        posted = subst (λ (list : List Item). Match (IsItem d queue) q'.requests ((v.posted queue) ++ list)) (sym is) matched;
         rung = rung ∙ old.rung;
         taken = old.taken ∙ sym taken;
         retired = old.retired ∙ sym retired;
@@ -212,8 +213,8 @@ module _ (d : Lines) (programs : List (List Call)) (total : Bounds) (map : IsMap
         told = old.told;
       }
 
-  matched_old : Match (IsItem d queue) q.requests ((v.queues queue).posted ++ accepted (Some c) items)
-  matched_old = subst (λ (list : List Item). Match (IsItem d queue) q.requests ((v.queues queue).posted ++ list)) written_old (stands.bare.state.queues queue lives).posted
+  matched_old : Match (IsItem d queue) q.requests ((v.posted queue) ++ accepted (Some c) items)
+  matched_old = subst (λ (list : List Item). Match (IsItem d queue) q.requests ((v.posted queue) ++ list)) written_old (stands.bare.state.queues queue lives).posted
 
   abbrev next : post.Call
   next = next_call place rule x.entry
@@ -244,16 +245,16 @@ module _ (d : Lines) (programs : List (List Call)) (total : Bounds) (map : IsMap
   says_of event is = ap (λ (ev : Option counted.WqEvent). entry_told queue items c (told_of ev)) is
 
   -- an operation that says nothing leaves the abstract state and what the threads owe
-  silent : (posting' : Option post.Call) (calls : List Call) (q' : counted.Queue) → Made posting' calls q' (v.queues queue) (w.posted queue) holds.dues → Holds d programs total (after_entry m x.entry) (actors (thread_with posting' calls) w.posted) r
+  silent : (posting' : Option post.Call) (calls : List Call) (q' : counted.Queue) → Made posting' calls q' (v.posted queue) (w.posted queue) holds.dues → Holds d programs total (after_entry m x.entry) (actors (thread_with posting' calls) w.posted) r
   silent posting' calls q' made = record {
     dues = holds.dues;
     owed = holds.owed;
     stands = stands_still d programs total map m w v holds.dues stands t queue lives owner x.entry poster' posting' calls q' holds.dues made stands.bare.sound;
   }
 
-  made_with : (posting' : Option post.Call) (calls : List Call) (q' : counted.Queue) (u : WorkQueue) (told : List Item) (dues' : List (List Due)) → ((other : Queue) → other ≢ queue → written_in other posting' calls ≡ []) → ((k : ℕ) → k ≢ t → dues_at dues' (suc k) ≡ dues_at holds.dues (suc k))
-      → Grows q q' → QueueTied d programs (after_entry m x.entry) w queue poster' q' → QueueIs d (written_in queue posting' calls) told u q' queue → ThreadStands d programs (suc t) (thread_with posting' calls) (dues_at dues' (suc t)) → Made posting' calls q' u told dues'
-  made_with posting' calls q' u told dues' silent_now others grows tied' is own = record { inside = inside; tied = tied'; stands_for = is; grows = grows; silent = λ other differ. call.silent s refl other differ; silent_now = silent_now; own = own; others = others }
+  made_with : (posting' : Option post.Call) (calls : List Call) (q' : counted.Queue) (list told : List Item) (dues' : List (List Due)) → ((other : Queue) → other ≢ queue → written_in other posting' calls ≡ []) → ((k : ℕ) → k ≢ t → dues_at dues' (suc k) ≡ dues_at holds.dues (suc k))
+      → Grows q q' → QueueTied d programs (after_entry m x.entry) w queue poster' q' → QueueIs d (written_in queue posting' calls) told (record (queue_in v queue) { posted = list }) q' queue → ThreadStands d programs (suc t) (thread_with posting' calls) (dues_at dues' (suc t)) → Made posting' calls q' list told dues'
+  made_with posting' calls q' list told dues' silent_now others grows tied' is own = record { inside = inside; tied = tied'; stands_for = is; grows = grows; silent = λ other differ. call.silent s refl other differ; silent_now = silent_now; own = own; others = others }
 
   dues_kept : (k : ℕ) → k ≢ t → dues_at holds.dues (suc k) ≡ dues_at holds.dues (suc k)
   dues_kept k differ = refl
@@ -271,7 +272,7 @@ module _ (d : Lines) (programs : List (List Call)) (total : Bounds) (map : IsMap
         stage = record { writes = λ h. o.recorded; record_next = λ all waits. absurd (false≢true (sym more ∙ all)); register_next = λ recorded. absurd (false≢true (sym o.recorded ∙ recorded)) };
       } in
       conclude (Some c) None going (says_of None is)
-      (silent (Some c) s.calls q (made_with (Some c) s.calls q (v.queues queue) (w.posted queue) holds.dues (silent_on (Some c)) dues_kept (grows_refl q) (goes_with None is)
+      (silent (Some c) s.calls q (made_with (Some c) s.calls q (v.posted queue) (w.posted queue) holds.dues (silent_on (Some c)) dues_kept (grows_refl q) (goes_with None is)
       (queue_with (Some c) s.calls q (accepted (Some c) items) (call.writes (thread_with (Some c) s.calls) refl) matched_old refl refl refl) (goes_on_stands c (dues_at holds.dues (suc t)) as_before owes_now)))
 
   -- Registers: the call is over
@@ -281,8 +282,8 @@ module _ (d : Lines) (programs : List (List Call)) (total : Bounds) (map : IsMap
       let nothing : accepted (Some c) items ≡ [] = ap (λ (b : Bool). if b then [] else take c.accepted items) recorded in
       let owed_nothing : post_dues queue items (Some c) ≡ [] = ap (λ (b : Bool). if b then [] else (if is_some c.refused then Accepting queue (take c.accepted items) ∷ [] else Posting queue items ∷ [])) recorded in
       conclude None None over (says_of None is)
-      (silent None rest q (made_with None rest q (v.queues queue) (w.posted queue) holds.dues silent_off dues_kept (grows_refl q) (goes_with None is)
-      (queue_with None rest q [] (written_none queue (thread_with None rest) rest refl) (subst (λ (list : List Item). Match (IsItem d queue) q.requests ((v.queues queue).posted ++ list)) nothing matched_old) refl refl refl)
+      (silent None rest q (made_with None rest q (v.posted queue) (w.posted queue) holds.dues silent_off dues_kept (grows_refl q) (goes_with None is)
+      (queue_with None rest q [] (written_none queue (thread_with None rest) rest refl) (subst (λ (list : List Item). Match (IsItem d queue) q.requests ((v.posted queue) ++ list)) nothing matched_old) refl refl refl)
       (ends_stands (dues_at holds.dues (suc t)) ready (owes_now ∙ ap (λ (ds : List Due). ds ++ flat_map due_by rest) owed_nothing))))
 
   -- Writes: one item more is accepted
@@ -300,10 +301,10 @@ module _ (d : Lines) (programs : List (List Call)) (total : Bounds) (map : IsMap
       let written' : IsItem d queue (record { index = q.next; words = words; id = id }) one.item = subst (λ (i : ℕ). IsWrittenItem place queue i one.item words id) index one.written in
       let before : accepted (Some c) items ≡ take c.accepted items = ap (λ (b : Bool). if b then [] else take c.accepted items) o.recorded in
       let after' : accepted (Some call') items ≡ take (c.accepted + 1) items = ap (λ (b : Bool). if b then [] else take (c.accepted + 1) items) o.recorded in
-      let longer : (v.queues queue).posted ++ take (c.accepted + 1) items ≡ ((v.queues queue).posted ++ take c.accepted items) ++ one.item ∷ [] =
-      ap (λ (list : List Item). (v.queues queue).posted ++ list) (take_one items c.accepted one.item one.next_is) ∙ sym (append_assoc (v.queues queue).posted (take c.accepted items) (one.item ∷ [])) in
-      let pushed : Match (IsItem d queue) q'.requests (((v.queues queue).posted ++ take c.accepted items) ++ one.item ∷ []) =
-      match_push (IsItem d queue) q.requests ((v.queues queue).posted ++ take c.accepted items) (record { index = q.next; words = words; id = id }) one.item (subst (λ (list : List Item). Match (IsItem d queue) q.requests ((v.queues queue).posted ++ list)) before matched_old) written' in
+      let longer : (v.posted queue) ++ take (c.accepted + 1) items ≡ ((v.posted queue) ++ take c.accepted items) ++ one.item ∷ [] =
+      ap (λ (list : List Item). (v.posted queue) ++ list) (take_one items c.accepted one.item one.next_is) ∙ sym (append_assoc (v.posted queue) (take c.accepted items) (one.item ∷ [])) in
+      let pushed : Match (IsItem d queue) q'.requests (((v.posted queue) ++ take c.accepted items) ++ one.item ∷ []) =
+      match_push (IsItem d queue) q.requests ((v.posted queue) ++ take c.accepted items) (record { index = q.next; words = words; id = id }) one.item (subst (λ (list : List Item). Match (IsItem d queue) q.requests ((v.posted queue) ++ list)) before matched_old) written' in
       let one_more : IsPosting (length items) poster' call' = record {
         count = posting.count;
         some = omega (arith, o.more);
@@ -312,7 +313,7 @@ module _ (d : Lines) (programs : List (List Call)) (total : Bounds) (map : IsMap
       } in
       let dues' : post_dues queue items (Some c) ≡ post_dues queue items (Some call') = rw (o.recorded, o.refused) refl in
       conclude (Some call') None going (says_of event is)
-      (silent (Some call') s.calls q' (made_with (Some call') s.calls q' (v.queues queue) (w.posted queue) holds.dues (silent_on (Some call')) dues_kept (grows_event place q (counted.Wrote words id) (omega (arith, tied.shape.order.taken, tied.shape.order.rung))) g.1
+      (silent (Some call') s.calls q' (made_with (Some call') s.calls q' (v.posted queue) (w.posted queue) holds.dues (silent_on (Some call')) dues_kept (grows_event place q (counted.Wrote words id) (omega (arith, tied.shape.order.taken, tied.shape.order.rung))) g.1
       (queue_with (Some call') s.calls q' (take (c.accepted + 1) items) (call.writes (thread_with (Some call') s.calls) refl ∙ after') (subst (Match (IsItem d queue) q'.requests) (sym longer) pushed) refl refl refl)
       (goes_on_stands call' (dues_at holds.dues (suc t)) one_more (owes_now ∙ ap (λ (ds : List Due). ds ++ flat_map due_by rest) dues'))))
 
@@ -378,20 +379,20 @@ module _ (d : Lines) (programs : List (List Call)) (total : Bounds) (map : IsMap
     ends_is : ends place c next ≡ (c.accepted == 0)
     ends_is = ap (λ (k : post.Call). ends place c k) (next_is (Some (counted.Full head tail)) is) ∙ ends_refused place c call' o.recorded o.recorded refl
 
-    goes_full : (posting' : Option post.Call) (calls : List Call) → Made posting' calls q (v.queues queue) (w.posted queue) (dues_after (refused_left ++ flat_map due_by rest)) → Goes d programs total (after_entry m x.entry) (actors (thread_with posting' calls) w.posted) r (Some (by (suc t) what))
+    goes_full : (posting' : Option post.Call) (calls : List Call) → Made posting' calls q (v.posted queue) (w.posted queue) (dues_after (refused_left ++ flat_map due_by rest)) → Goes d programs total (after_entry m x.entry) (actors (thread_with posting' calls) w.posted) r (Some (by (suc t) what))
     goes_full posting' calls made = (
       may_turn what (Posting queue items) (flat_map due_by rest) (open_dues o) makes.legal (refl, omega (arith, o.more, posting.count)),
       record {
         dues = dues_after (refused_left ++ flat_map due_by rest);
         owed = owed_after what (Posting queue items) (flat_map due_by rest) (open_dues o);
         stands = stands_still d programs total map m w v holds.dues stands t queue lives owner x.entry poster' posting' calls q (dues_after (refused_left ++ flat_map due_by rest)) made
-            (record { declared = stands.bare.sound.declared; long = length-set holds.dues t (refused_left ++ flat_map due_by rest) ∙ stands.bare.sound.long; sane = makes.sane });
+            (record { declared = stands.bare.sound.declared; long = length-set holds.dues t (refused_left ++ flat_map due_by rest) ∙ stands.bare.sound.long; bounded = makes.bounded });
       },
     )
 
-    abbrev made_full : (posting' : Option post.Call) (calls : List Call) → ((other : Queue) → other ≢ queue → written_in other posting' calls ≡ []) → QueueIs d (written_in queue posting' calls) (w.posted queue) (v.queues queue) q queue
-        → ThreadStands d programs (suc t) (thread_with posting' calls) (dues_at (dues_after (refused_left ++ flat_map due_by rest)) (suc t)) → Made posting' calls q (v.queues queue) (w.posted queue) (dues_after (refused_left ++ flat_map due_by rest))
-    made_full posting' calls silent_now = made_with posting' calls q (v.queues queue) (w.posted queue) (dues_after (refused_left ++ flat_map due_by rest)) silent_now (dues_there what (Posting queue items) (flat_map due_by rest) (open_dues o)) (grows_refl q) (goes_with (Some (counted.Full head tail)) is).1
+    abbrev made_full : (posting' : Option post.Call) (calls : List Call) → ((other : Queue) → other ≢ queue → written_in other posting' calls ≡ []) → QueueIs d (written_in queue posting' calls) (w.posted queue) (queue_in v queue) q queue
+        → ThreadStands d programs (suc t) (thread_with posting' calls) (dues_at (dues_after (refused_left ++ flat_map due_by rest)) (suc t)) → Made posting' calls q (v.posted queue) (w.posted queue) (dues_after (refused_left ++ flat_map due_by rest))
+    made_full posting' calls silent_now = made_with posting' calls q (v.posted queue) (w.posted queue) (dues_after (refused_left ++ flat_map due_by rest)) silent_now (dues_there what (Posting queue items) (flat_map due_by rest) (open_dues o)) (grows_refl q) (goes_with (Some (counted.Full head tail)) is).1
 
     here : dues_at (dues_after (refused_left ++ flat_map due_by rest)) (suc t) ≡ refused_left ++ flat_map due_by rest
     here = dues_here what (Posting queue items) (flat_map due_by rest) (open_dues o)
@@ -401,7 +402,7 @@ module _ (d : Lines) (programs : List (List Call)) (total : Bounds) (map : IsMap
         let nothing : accepted (Some c) items ≡ [] = ap (λ (b : Bool). if b then [] else take c.accepted items) o.recorded ∙ ap (λ (k : ℕ). take k items) (eqb-true c.accepted 0 none) in
         conclude None (Some what) (call_is_over (ends_is ∙ none)) (says_of (Some (counted.Full head tail)) is)
         (goes_full None rest (made_full None rest silent_off
-        (queue_with None rest q [] (written_none queue (thread_with None rest) rest refl) (subst (λ (list : List Item). Match (IsItem d queue) q.requests ((v.queues queue).posted ++ list)) nothing matched_old) refl refl refl)
+        (queue_with None rest q [] (written_none queue (thread_with None rest) rest refl) (subst (λ (list : List Item). Match (IsItem d queue) q.requests ((v.posted queue) ++ list)) nothing matched_old) refl refl refl)
         (ends_stands _ ready (here ∙ ap (λ (b : Bool). (if b then [] else Accepting queue (take c.accepted items) ∷ []) ++ flat_map due_by rest) none))))
 
     refused_rest : (c.accepted == 0) ≡ false → Result
@@ -454,14 +455,14 @@ module _ (d : Lines) (programs : List (List Call)) (total : Bounds) (map : IsMap
     rung_ends : ends place c next ≡ not (is_send place)
     rung_ends = ap (λ (k : post.Call). ends place c k) (next_is (Some counted.Rang) is) ∙ ends_rung place c recorded' waits refl rung_some
 
-    matched_rung : Match (IsItem d queue) q.requests ((v.queues queue).posted ++ rung_items)
-    matched_rung = subst (λ (list : List Item). Match (IsItem d queue) q.requests ((v.queues queue).posted ++ list)) (ap (λ (b : Bool). if b then [] else rung_items) waits) matched_old
+    matched_rung : Match (IsItem d queue) q.requests ((v.posted queue) ++ rung_items)
+    matched_rung = subst (λ (list : List Item). Match (IsItem d queue) q.requests ((v.posted queue) ++ list)) (ap (λ (b : Bool). if b then [] else rung_items) waits) matched_old
 
-    queue_rung : (posting' : Option post.Call) (calls : List Call) → written_in queue posting' calls ≡ [] → QueueIs d (written_in queue posting' calls) (w.posted queue ++ rung_items) (rows.post (v.queues queue) rung_items) rang queue
+    queue_rung : (posting' : Option post.Call) (calls : List Call) → written_in queue posting' calls ≡ [] → QueueIs d (written_in queue posting' calls) (w.posted queue ++ rung_items) (record (queue_in v queue) { posted = v.posted queue ++ rung_items }) rang queue
     queue_rung posting' calls nothing =
         let old = stands.bare.state.queues queue lives in record {
-          posted = subst (λ (list : List Item). Match (IsItem d queue) q.requests list) (sym (ap (λ (list : List Item). ((v.queues queue).posted ++ rung_items) ++ list) nothing ∙ append_nil ((v.queues queue).posted ++ rung_items))) matched_rung;
-          rung = match_length (IsItem d queue) q.requests ((v.queues queue).posted ++ rung_items) matched_rung;
+          posted = subst (λ (list : List Item). Match (IsItem d queue) q.requests list) (sym (ap (λ (list : List Item). ((v.posted queue) ++ rung_items) ++ list) nothing ∙ append_nil ((v.posted queue) ++ rung_items))) matched_rung;
+          rung = match_length (IsItem d queue) q.requests ((v.posted queue) ++ rung_items) matched_rung;
           taken = old.taken;
           retired = old.retired;
           room = old.room;
@@ -477,10 +478,10 @@ module _ (d : Lines) (programs : List (List Call)) (total : Bounds) (map : IsMap
           record {
             dues = rung_dues;
             owed = owed_after posts head (flat_map due_by rest) owes;
-            stands = stands_now d programs total map m w v holds.dues stands t queue lives owner x.entry poster' posting' calls rang (rows.post (v.queues queue) rung_items) (w.posted queue ++ rung_items) rung_dues
-                (made_with posting' calls rang (rows.post (v.queues queue) rung_items) (w.posted queue ++ rung_items) rung_dues silent_now (dues_there posts head (flat_map due_by rest) owes)
-                (grows_event place q counted.Rang (omega (arith, tied.shape.order.taken, tied.shape.order.rung))) (goes_with (Some counted.Rang) is).1 (queue_rung posting' calls nothing) own) refl refl
-                (record { declared = record { pairs = was.pairs; pair_lives = was.pair_lives; completions_live = was.completions_live }; long = length-set holds.dues t (left_by head posts ++ flat_map due_by rest) ∙ stands.bare.sound.long; sane = makes.sane });
+            stands = stands_now d programs total map m w v holds.dues stands t queue lives owner x.entry poster' posting' calls rang (v.posted queue ++ rung_items) (w.posted queue ++ rung_items) rung_dues
+                (made_with posting' calls rang (v.posted queue ++ rung_items) (w.posted queue ++ rung_items) rung_dues silent_now (dues_there posts head (flat_map due_by rest) owes)
+                (grows_event place q counted.Rang (omega (arith, tied.shape.order.taken, tied.shape.order.rung))) (goes_with (Some counted.Rang) is).1 (queue_rung posting' calls nothing) own)
+                (record { declared = record { pairs = was.pairs; pair_lives = was.pair_lives; completions_live = was.completions_live }; long = length-set holds.dues t (left_by head posts ++ flat_map due_by rest) ∙ stands.bare.sound.long; bounded = makes.bounded });
           },
         )
 
@@ -527,16 +528,16 @@ module _ (d : Lines) (programs : List (List Call)) (total : Bounds) (map : IsMap
 
   -- What the words show is what the abstract state asks for
 
-  long_now : c.recorded ≡ false → length q.requests ≡ length (v.queues queue).posted + c.accepted
+  long_now : c.recorded ≡ false → length q.requests ≡ length (v.posted queue) + c.accepted
   long_now waits =
-      let matched = match_length (IsItem d queue) q.requests ((v.queues queue).posted ++ accepted (Some c) items) matched_old in
+      let matched = match_length (IsItem d queue) q.requests ((v.posted queue) ++ accepted (Some c) items) matched_old in
       let kept : length (accepted (Some c) items) ≡ c.accepted = ap (λ (b : Bool). length (if b then [] else take c.accepted items)) waits ∙ length-take c.accepted items ∙ min_is c.accepted (length items) (omega (arith, posting.some, posting.count)) in
-      omega (arith, matched, kept, length-append (v.queues queue).posted (accepted (Some c) items))
+      omega (arith, matched, kept, length-append (v.posted queue) (accepted (Some c) items))
 
   owes_first : (head : Due) (more : List Due) → dues_at holds.dues (suc t) ≡ head ∷ more → proper.Owes holds.dues t head more
   owes_first head more is = record { low = owes_at t holds.dues head more is; is = is }
 
-  can_post : c.recorded ≡ false → CanPost d (length d.qps) total v holds.dues t rung_items (flat_map due_by rest) stands.bare.sound.sane queue
+  can_post : c.recorded ≡ false → CanPost d (length d.qps) total v holds.dues t rung_items (flat_map due_by rest) stands.bare.sound.bounded queue
   can_post waits =
       let old = stands.bare.state.queues queue lives in
       let some_long : length rung_items ≡ c.accepted = length-take c.accepted items ∙ min_is c.accepted (length items) (omega (arith, posting.some, posting.count)) in
@@ -549,14 +550,14 @@ module _ (d : Lines) (programs : List (List Call)) (total : Bounds) (map : IsMap
   steps = record {
     full = λ head tail o refuse.
         let old = stands.bare.state.queues queue lives in
-        full_goes d (length d.qps) total v holds.dues t items (flat_map due_by rest) stands.bare.sound.sane queue c.accepted head tail lives (owes_first (Posting queue items) (flat_map due_by rest) (open_dues o)) (record {
+        full_goes d (length d.qps) total v holds.dues t items (flat_map due_by rest) stands.bare.sound.bounded queue c.accepted head tail lives (owes_first (Posting queue items) (flat_map due_by rest) (open_dues o)) (record {
           head_is = refuse.head_is ∙ long_now o.recorded;
           tail_is = refuse.tail_is ∙ sym old.retired;
           full = omega (arith, refuse.head_is, refuse.tail_is, refuse.full, old.room);
         });
     whole = λ waits whole owes.
-        whole_goes d (length d.qps) total v holds.dues t rung_items (flat_map due_by rest) stands.bare.sound.sane queue lives (owes_first (Posting queue rung_items) (flat_map due_by rest) (owes ∙ ap (λ (list : List Item). Posting queue list ∷ flat_map due_by rest) (sym whole))) (can_post waits);
-    part = λ waits owes. part_goes d (length d.qps) total v holds.dues t rung_items (flat_map due_by rest) stands.bare.sound.sane queue lives (owes_first (Accepting queue rung_items) (flat_map due_by rest) owes) (can_post waits);
+        whole_goes d (length d.qps) total v holds.dues t rung_items (flat_map due_by rest) stands.bare.sound.bounded queue lives (owes_first (Posting queue rung_items) (flat_map due_by rest) (owes ∙ ap (λ (list : List Item). Posting queue list ∷ flat_map due_by rest) (sym whole))) (can_post waits);
+    part = λ waits owes. part_goes d (length d.qps) total v holds.dues t rung_items (flat_map due_by rest) stands.bare.sound.bounded queue lives (owes_first (Accepting queue rung_items) (flat_map due_by rest) owes) (can_post waits);
   }
 
   -- an operation of a call to post keeps what holds

@@ -26,8 +26,9 @@ use Rattle.actor_rules.specs.Actors.{Actors}
 use Rattle.actor_rules.specs.Dues.{dues_at}
 use Rattle.actor_rules.specs.Family.{put_number}
 use Rattle.actor_rules.specs.Polling.{place_in}
-use Rattle.verbs_rules.specs.Sane.{Bounds}
-use Rattle.verbs_rules.specs.State.{WorkQueue, Verbs}
+use Rattle.verbs_rules.specs.Within.{Bounds}
+use Rattle.verbs_rules.specs.State.{Verbs}
+use Rattle.verbs_rules.specs.OfOne.{queue_in}
 use Rattle.device_engine.specs.State.{send_cq}
 use Rattle.actor_rules.proofs.View.{View, view, seen_kept, seen_put, post_written, poll_given, written_in}
 use Rattle.actor_rules.proofs.Objects.{Lists, sides, TiedIn, IsTied, poster_side, retirer_in}
@@ -113,11 +114,11 @@ module _ (d : Lines) (programs : List (List Call)) where
     abbrev pub now : (Queue → List Item) → Actors
     now posted = record { adapter = w.adapter; threads = put_number w.threads (suc t) thread; posted = posted }
 
-    -- What the operation made: of the words and the queue that they stand for, where the state's queue is this and this is told, and of its thread.
-    pub record Posts (u : WorkQueue) (told : List Item) (dues' : List (List Due)) : Type 0 where
+    -- What the operation made: of the words and the queue that they stand for, where this is posted on the state's queue and this is told, and of its thread.
+    pub record Posts (list told : List Item) (dues' : List (List Due)) : Type 0 where
       pub inside : touches d (object_of queue) e.addr ≡ true
       pub tied : QueueTied d programs (after_entry m e) w queue poster q
-      pub stands_for : QueueIs d (written_in queue posting calls) told u q queue
+      pub stands_for : QueueIs d (written_in queue posting calls) told (record (queue_in v queue) { posted = list }) q queue
       pub grows : Grows (stands.lists.queues queue) q
       pub silent : (other : Queue) → other ≢ queue → written_by other old old.calls ≡ []
       pub silent_now : (other : Queue) → other ≢ queue → written_in other posting calls ≡ []
@@ -136,13 +137,13 @@ module _ (d : Lines) (programs : List (List Call)) where
     abbrev s : View
     s = view programs w
 
-    module _ (u : WorkQueue) (told : List Item) (dues' : List (List Due)) (made : Posts u told dues') where
+    module _ (list told : List Item) (dues' : List (List Due)) (made : Posts list told dues') where
       -- one queue's side has moved, and what is written and told there
       abbrev s' : View
       s' = record s { posters = put same_queue s.posters queue poster; written = put same_queue s.written queue (written_in queue posting calls); told = put same_queue w.posted queue told }
 
       abbrev v' : Verbs
-      v' = record v { queues = put same_queue v.queues queue u }
+      v' = record v { posted = put same_queue v.posted queue list }
 
       view_now : view programs (now s'.told) ≡ s'
       view_now = λ i. record {
@@ -169,20 +170,18 @@ module _ (d : Lines) (programs : List (List Call)) where
       grows_all qp = queue_cases (λ k x. Grows (l.queues k) x) l.queues queue q made.grows (λ other differ. grows_refl (l.queues other)) (queues.Send qp)
 
       -- what the adapter takes, and what a poll has told, stays
-      pub stands_now : u.ends ≡ (v.queues queue).ends → u.taken ≡ (v.queues queue).taken → IsSound d programs total v' dues' → Stands d programs total m' (now s'.told) v' dues'
-      stands_now ends taken sound =
+      pub stands_now : IsSound d programs total v' dues' → Stands d programs total m' (now s'.told) v' dues'
+      stands_now sound =
           let b = stands.bare in
-          let taken_all : (qp : ℕ) → (v'.queues (queues.Send qp)).taken ≡ (v.queues (queues.Send qp)).taken = λ qp. queue_cases (λ k x. x.taken ≡ (v.queues k).taken) v.queues queue u taken (λ k differ. refl) (queues.Send qp) in
-          let ends_all : (qp : ℕ) → (v'.queues (queues.Send qp)).ends ≡ (v.queues (queues.Send qp)).ends = λ qp. queue_cases (λ k x. x.ends ≡ (v.queues k).ends) v.queues queue u ends (λ k differ. refl) (queues.Send qp) in
           subst (λ (x : View). StandsIn d programs total m' x (now s'.told).threads w.adapter v' dues') (sym view_now) (record {
             lists = l';
             bare = record {
               objects = frame_in d map m e s s' l l' b.objects (object_of queue) (object_lives queue lives) made.inside other_sides
                   (object_tied queue m' s' l' lives (coe 1 0 (i. QueueTiedIn d m' s queue (queue_here s.posters queue poster i) (queue_here l.queues queue q i)) made.tied));
               state = record {
-                queues = queue_by (λ k b. QueueLives d k → QueueIs d (if b then written_in queue posting calls else s.written k) (if b then told else w.posted k) (if b then u else v.queues k) (if b then q else l.queues k) k) queue (λ alive. made.stands_for) (λ k differ alive. b.state.queues k alive);
-                completions = λ cq alive. completions_kept d l l' grows_all (s.polls cq) (s.given cq) v v' cq refl refl (λ qp live home. ends_all qp) (b.state.completions cq alive);
-                taken = λ qp alive. b.state.taken qp alive ∙ sym (taken_all qp);
+                queues = queue_by (λ k b. QueueLives d k → QueueIs d (if b then written_in queue posting calls else s.written k) (if b then told else w.posted k) (record (queue_in v k) { posted = if b then list else v.posted k }) (if b then q else l.queues k) k) queue (λ alive. made.stands_for) (λ k differ alive. b.state.queues k alive);
+                completions = λ cq alive. completions_kept d l l' grows_all (s.polls cq) (s.given cq) v v' cq refl refl (λ qp live home. refl) (b.state.completions cq alive);
+                taken = b.state.taken;
               };
               threads = threads_now d programs w.threads t thread dues dues' made.others made.own b.threads;
               sound = sound;
@@ -191,9 +190,9 @@ module _ (d : Lines) (programs : List (List Call)) where
           })
 
     -- an operation that leaves the abstract state, and of which nothing is told
-    pub stands_still : (dues' : List (List Due)) → Posts (v.queues queue) (w.posted queue) dues' → IsSound d programs total v dues' → Stands d programs total m' (now w.posted) v dues'
+    pub stands_still : (dues' : List (List Due)) → Posts (v.posted queue) (w.posted queue) dues' → IsSound d programs total v dues' → Stands d programs total m' (now w.posted) v dues'
     stands_still dues' made sound =
-        let queues_same : put same_queue v.queues queue (v.queues queue) ≡ v.queues = put_same same_queue v.queues queue (v.queues queue) (λ j same. same_queue-true j queue same) refl in
+        let posted_same : put same_queue v.posted queue (v.posted queue) ≡ v.posted = put_same same_queue v.posted queue (v.posted queue) (λ j same. same_queue-true j queue same) refl in
         let told_same : put same_queue w.posted queue (w.posted queue) ≡ w.posted = put_same same_queue w.posted queue (w.posted queue) (λ j same. same_queue-true j queue same) refl in
-        coe 0 1 (i. Stands d programs total m' (now (told_same i)) (record v { queues = queues_same i }) dues')
-        (stands_now (v.queues queue) (w.posted queue) dues' made refl refl (coe 1 0 (i. IsSound d programs total (record v { queues = queues_same i }) dues') sound))
+        coe 0 1 (i. Stands d programs total m' (now (told_same i)) (record v { posted = posted_same i }) dues')
+        (stands_now (v.posted queue) (w.posted queue) dues' made (coe 1 0 (i. IsSound d programs total (record v { posted = posted_same i }) dues') sound))

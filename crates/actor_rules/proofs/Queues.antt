@@ -5,7 +5,8 @@ use Rattle.verbs_types.specs.declared.completion.Queue.{Queue}
 use Rattle.verbs_types.specs.declared.completion.Queue.TheVariants as queues
 use Rattle.verbs_types.specs.declared.declaration.Lines.{Lines}
 use Rattle.verbs_types.specs.declared.request.Item.{Item}
-use Rattle.verbs_rules.specs.State.{WorkQueue, Verbs}
+use Rattle.verbs_rules.specs.State.{Verbs}
+use Rattle.verbs_rules.specs.OfOne.{WorkQueue, queue_in}
 use Rattle.counted_ring.specs.Queue as counted
 use Rattle.object_places.specs.Objects.{Lives, Sends, Receives}
 use Rattle.object_places.specs.Places.{qp_line}
@@ -51,7 +52,7 @@ pub record QueueIs (d : Lines) (written_items told_items : List Item) (u : WorkQ
   pub told : told_items ≡ u.posted
 
 abbrev pub QueueIn : Lines → View → Verbs → counted.Queue → Queue → Type 0
-QueueIn d s v q queue = QueueIs d (s.written queue) (s.told queue) (v.queues queue) q queue
+QueueIn d s v q queue = QueueIs d (s.written queue) (s.told queue) (queue_in v queue) q queue
 
 abbrev pub QueueStands : Lines → List (List Call) → Actors → Verbs → counted.Queue → Queue → Type 0
 QueueStands d programs w v q queue = QueueIn d (view programs w) v q queue

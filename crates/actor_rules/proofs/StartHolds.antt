@@ -12,14 +12,15 @@ use Rattle.verbs_types.specs.declared.completion.Queue.TheVariants as queues
 use Rattle.verbs_types.specs.declared.declaration.Lines.{Lines}
 use Rattle.verbs_types.specs.declared.declaration.QpLine.{QpLine}
 use Rattle.verbs_types.specs.declared.state.Unpolled.{Unpolled}
+use Rattle.verbs_types.specs.declared.declaration.CqLine.{CqLine}
 use Rattle.verbs_types.specs.declared.declaration.TheConstants.{FIRST_QP}
 use Rattle.verbs_types.specs.declared.request.Item.{Item}
 use Rattle.verbs_types.specs.declared.request.Item.TheVariants.{Request as TheRequest, Receive as TheReceive}
 use Rattle.verbs_rules.specs.Answered.{due_by}
 use Rattle.verbs_types.specs.Lines.{is_among, is_declared}
 use Rattle.verbs_rules.specs.Same.{same_queue}
-use Rattle.verbs_rules.specs.Start.{start, for_line, start_queue, fresh_queue, no_queue, fresh_completions, no_completions}
-use Rattle.verbs_rules.specs.State.{WorkQueue, CompletionQueue}
+use Rattle.verbs_rules.specs.Start.{start, for_line, room_of, size_of, first_index}
+use Rattle.verbs_rules.specs.Start as first
 use Rattle.actor_map.specs.Start.{start_words}
 use Rattle.cq_pair.specs.Queue as completions
 use Rattle.cq_pair.proofs.Law as completions_law
@@ -36,7 +37,7 @@ use Rattle.actor_rules.specs.Actors.{Actors, fresh_actors}
 use Rattle.actor_rules.specs.Polling.{place_in}
 use Rattle.device_engine.specs.State.{AdapterAt, Looking, Ending, send_cq, first_work, fresh_adapter}
 use Rattle.actor_rules.specs.Dues.{dues_at, call_dues}
-use Rattle.verbs_rules.specs.Sane.{Bounds}
+use Rattle.verbs_rules.specs.Within.{Bounds}
 use Rattle.provider_poll.specs.declared.state.PollState.TheVariants.{Idle}
 use Rattle.actor_rules.specs.Owners.{poster_of}
 use Rattle.actor_rules.proofs.Matching.{Match}
@@ -105,54 +106,49 @@ module _ (d : Lines) (programs : List (List Call)) where
       subst (λ (r : Retirer). Tied place (start_words d 1) (fresh_poster (qp_line d qp).start) r (fresh_device (qp_line d qp).start) (counted.empty_queue (qp_line d qp).start)) (sym (fresh_retirers (completing d (send_cq d qp)) (place_in d (send_cq d qp) qp))) begun
   objects_start starts declared (Receives qp) lives = requests_law.start_tied (receive_of d qp) (qp_line d qp).start (start_words d 1) (starts d 1 (Receives qp) declared lives)
 
-  send_start : (qp : ℕ) → Lives d (Sends qp) → start_queue d (queues.Send qp) ≡ fresh_queue (qp_line d qp).send_log (qp_line d qp).segments
-  send_start qp lives = for_line_at FIRST_QP d.qps (λ (l : QpLine). fresh_queue l.send_log l.segments) no_queue no_qp qp lives
-
-  receive_start : (qp : ℕ) → Lives d (Receives qp) → start_queue d (queues.Recv qp) ≡ fresh_queue (qp_line d qp).recv_log (qp_line d qp).segments
-  receive_start qp lives = for_line_at FIRST_QP d.qps (λ (l : QpLine). fresh_queue l.recv_log l.segments) no_queue no_qp qp lives
-
-  completions_start : (cq : ℕ) → Lives d (Completions cq) → (start d).completions cq ≡ fresh_completions (cq_line d cq)
-  completions_start cq lives =
+  size_start : (cq : ℕ) → Lives d (Completions cq) → size_of d cq ≡ 2 ^ (cq_line d cq).log
+  size_start cq lives =
       let same : cq - 0 ≡ cq = omega arith in
-      for_line_at 0 d.cqs fresh_completions no_completions no_cq cq lives ∙ ap (λ (k : ℕ). fresh_completions (get_or d.cqs k no_cq)) same
+      for_line_at 0 d.cqs (λ (l : CqLine). 2 ^ l.log) 0 no_cq cq lives ∙ ap (λ (k : ℕ). 2 ^ (get_or d.cqs k no_cq).log) same
+
+  index_start : (cq : ℕ) → Lives d (Completions cq) → first_index d cq ≡ (cq_line d cq).start
+  index_start cq lives =
+      let same : cq - 0 ≡ cq = omega arith in
+      for_line_at 0 d.cqs (λ (l : CqLine). l.start) 0 no_cq cq lives ∙ ap (λ (k : ℕ). (get_or d.cqs k no_cq).start) same
 
   nothing_written : (queue : Queue) → written programs w queue ≡ []
   nothing_written queue = written_none queue (w.threads (poster_of programs queue)) (w.threads (poster_of programs queue)).calls refl
 
   -- a queue as its line declares it stands for an empty one
-  queue_stands : (queue : Queue) (log segments : ℕ) → start_queue d queue ≡ fresh_queue log segments → 2 ^ log ≡ (queue_place d queue).max_post → segments ≡ segments_of d queue → QueueStands d programs w (start d) (counted.empty_queue (queue_start d queue)) queue
-  queue_stands queue log segments is room segments_are =
-      let posted : (start d).queues queue ≡ fresh_queue log segments = is in record {
-        posted = subst (λ (items : List Item). Match (IsItem d queue) [] items) (sym (ap (λ (u : WorkQueue). u.posted ++ written programs w queue) is ∙ nothing_written queue)) tt;
-        rung = sym (ap (λ (u : WorkQueue). length u.posted) is);
-        taken = ap (λ (u : WorkQueue). u.taken) is;
-        retired = ap (λ (u : WorkQueue). u.retired) is;
-        room = ap (λ (u : WorkQueue). u.room) is ∙ room;
-        segments = ap (λ (u : WorkQueue). u.segments) is ∙ segments_are;
-        told = sym (ap (λ (u : WorkQueue). u.posted) is);
-      }
+  queue_stands : (queue : Queue) → room_of d queue ≡ (queue_place d queue).max_post → first.segments_of d queue ≡ segments_of d queue → QueueStands d programs w (start d) (counted.empty_queue (queue_start d queue)) queue
+  queue_stands queue room segments = record {
+    posted = subst (Match (IsItem d queue) []) (sym (nothing_written queue)) tt;
+    rung = refl;
+    taken = refl;
+    retired = refl;
+    room = room;
+    segments = segments;
+    told = refl;
+  }
 
   queues_start : (queue : Queue) → QueueLives d queue → QueueStands d programs w (start d) (lists.queues queue) queue
-  queues_start (queues.Send qp) lives = queue_stands (queues.Send qp) (qp_line d qp).send_log (qp_line d qp).segments (send_start qp lives) refl refl
-  queues_start (queues.Recv qp) lives = queue_stands (queues.Recv qp) (qp_line d qp).recv_log (qp_line d qp).segments (receive_start qp lives) refl refl
+  queues_start (queues.Send qp) lives = queue_stands (queues.Send qp) (for_line_at FIRST_QP d.qps (λ (l : QpLine). 2 ^ l.send_log) 0 no_qp qp lives) (for_line_at FIRST_QP d.qps (λ (l : QpLine). l.segments) 0 no_qp qp lives)
+  queues_start (queues.Recv qp) lives = queue_stands (queues.Recv qp) (for_line_at FIRST_QP d.qps (λ (l : QpLine). 2 ^ l.recv_log) 0 no_qp qp lives) (for_line_at FIRST_QP d.qps (λ (l : QpLine). l.segments) 0 no_qp qp lives)
   queues_start (queues.Shared srq) lives = absurd lives
-
-  nothing_ended : (qp : ℕ) → ((start d).queues (queues.Send qp)).ends ≡ []
-  nothing_ended qp = for_line_all (λ (u : WorkQueue). u.ends ≡ []) FIRST_QP d.qps (λ (l : QpLine). fresh_queue l.send_log l.segments) no_queue qp (λ l. refl) refl
 
   completions_stand : (cq : ℕ) → Lives d (Completions cq) → CompletionsStand d lists (fresh_poll d cq) [] (start d) cq
   completions_stand cq lives =
-      let is = completions_start cq lives in record {
-        counts = record { acked = ap (λ (c : CompletionQueue). c.acked) is; produced = ap (λ (c : CompletionQueue). c.produced) is ∙ omega arith; size = ap (λ (c : CompletionQueue). c.size) is; runs = refl };
+      let is = index_start cq lives in record {
+        counts = record { acked = is; produced = is ∙ omega arith; size = size_start cq lives; runs = refl };
         from = (cq_line d cq).start;
         from_is = omega arith;
         low = omega arith;
-        unpolled = subst (λ (us : List Unpolled). Match (IsCompletion lists) (completions.since (lists.completions cq) (cq_line d cq).start) us) (sym (ap (λ (c : CompletionQueue). c.unpolled) is)) (none_since ((cq_line d cq).start - (cq_line d cq).start));
+        unpolled = none_since ((cq_line d cq).start - (cq_line d cq).start);
         reads = tt;
         poll = tt;
         retirers = length-map (completing d cq) (λ (qp : ℕ). fresh_finder.retirer);
         asked = λ place. subst (λ (r : Retirer). AskedFor Idle place r.asked) (sym (fresh_retirers (completing d cq) place)) tt;
-        ends = λ qp there into. nothing_ended qp;
+        ends = λ qp there into. refl;
       }
     where
       none_since : (n : ℕ) → Match (IsCompletion lists) (drop n []) []
@@ -163,8 +159,8 @@ module _ (d : Lines) (programs : List (List Call)) where
   first_stands work is = subst (AdapterStandsAt d lists (start d) (fresh_adapter d)) is
       (cond_both (is_among FIRST_QP (length d.qps) FIRST_QP) Looking Ending (AdapterStandsAt d lists (start d) (fresh_adapter d)) (λ among. record { lives = among; idle = refl }) (λ none. refl))
 
-  none_taken : (qp : ℕ) → Lives d (Sends qp) → 0 ≡ ((start d).queues (queues.Send qp)).taken
-  none_taken qp lives = sym (for_line_all (λ (u : WorkQueue). u.taken ≡ 0) FIRST_QP d.qps (λ (l : QpLine). fresh_queue l.send_log l.segments) no_queue qp (λ l. refl) refl)
+  none_taken : (qp : ℕ) → Lives d (Sends qp) → 0 ≡ (start d).device.taken (queues.Send qp)
+  none_taken qp lives = refl
 
   -- a thread before its first call
   pub dues_of_calls : (t : Thread) (calls : List Call) → t.posting ≡ None → ((cq : ℕ) → (t.polls cq).state ≡ Idle) → call_dues d t calls ≡ flat_map due_by calls
@@ -205,7 +201,7 @@ module _ (d : Lines) (programs : List (List Call)) where
         objects = objects_start can.starts can.map.declared;
         state = record { queues = queues_start; completions = completions_stand; taken = none_taken };
         threads = λ t. thread_start t (can.ready.calls t);
-        sound = record { declared = record { pairs = λ qp. refl; pair_lives = λ qp. refl; completions_live = λ cq. refl }; long = length-map programs (flat_map due_by); sane = can.ready.sane };
+        sound = record { declared = record { pairs = λ qp. refl; pair_lives = λ qp. refl; completions_live = λ cq. refl }; long = length-map programs (flat_map due_by); bounded = can.ready.bounded };
       };
       work = first_stands (first_work d FIRST_QP) refl;
     };

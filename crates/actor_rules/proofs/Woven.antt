@@ -17,7 +17,7 @@ use Rattle.object_places.specs.Objects.{Mark}
 use Rattle.actor_rules.specs.Actors.{Actors, Knows, part, May, MayAny, next, after, after_by, says}
 use Rattle.actor_rules.specs.Run.{own}
 use Rattle.actor_rules.proofs.Holding.{Holds, Goes, IsDue, MayTurn, Step}
-use Rattle.verbs_rules.specs.Sane.{Bounds}
+use Rattle.verbs_rules.specs.Within.{Bounds}
 
 actor_of : Marked Mark → ℕ
 actor_of x = x.entry.actor

@@ -12,7 +12,7 @@ use Rattle.verbs_rules.specs.Answered.{Due, due_by}
 use Rattle.verbs_types.specs.Lines.{is_declared}
 use Rattle.verbs_rules.specs.Proper.{IsNop}
 use Rattle.verbs_rules.specs.Rows.{item_fits}
-use Rattle.verbs_rules.specs.Sane.{Bounds, Sane}
+use Rattle.verbs_rules.specs.Within.{Bounds, InBounds}
 use Rattle.verbs_rules.specs.Start.{start}
 use Rattle.object_places.specs.Objects.{Lives, Completions, Sends}
 use Rattle.object_places.specs.Places.{qp_line}
@@ -46,4 +46,4 @@ first_dues programs = map (flat_map due_by) programs
 pub record AreReady (d : Lines) (programs : List (List Call)) (bounds : Bounds) : Type 0 where
   pub declared : IsTrue (is_declared d)
   pub calls : (t : ℕ) → AllByRecursion (IsOwnCall d programs (suc t)) (program_of programs (suc t))
-  pub sane : Sane (length d.qps) bounds (start d) (first_dues programs)
+  pub bounded : InBounds (length d.qps) bounds (start d) (first_dues programs)
