@@ -7,7 +7,7 @@ use Rattle.bus_core.specs.Trace.{Memory, IsConsistent, after_entry}
 use Rattle.verbs_types.specs.declared.call.Call.{Call}
 use Rattle.verbs_types.specs.declared.declaration.Lines.{Lines}
 use Rattle.verbs_types.specs.declared.entry.Entry.{Entry}
-use Rattle.verbs_rules.specs.Sane.{Bounds}
+use Rattle.verbs_rules.specs.Within.{Bounds}
 use Rattle.verbs_rules.specs.Start.{start}
 use Rattle.verbs_rules.specs.Running.{Running, after_turn}
 use Rattle.actor_map.specs.Start.{start_words}

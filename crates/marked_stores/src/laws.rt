@@ -1,7 +1,7 @@
 //! The law of the words in which actors take news of one another.
 ghost use Rattle.std.specs.Prelude.{List};
 ghost use Rattle.bus_core.specs.Mark.{Marked};
-ghost use Rattle.verbs_rules.specs.Sane.{Bounds};
+ghost use Rattle.verbs_rules.specs.Within.{Bounds};
 ghost use Rattle.verbs_types.specs.declared.call.Call.{Call};
 ghost use Rattle.verbs_types.specs.declared.declaration.Lines.{Lines};
 ghost use Rattle.object_places.specs.Objects.{Mark};

@@ -8,7 +8,7 @@ use Rattle.verbs_types.specs.declared.call.Call.TheVariants.{Post, Recv, Poll, D
 use Rattle.verbs_types.specs.declared.completion.Queue.TheVariants as queues
 use Rattle.verbs_types.specs.declared.declaration.Lines.{Lines}
 use Rattle.verbs_types.specs.declared.request.Item.TheVariants.{Request as TheRequest, Receive as TheReceive}
-use Rattle.verbs_rules.specs.Sane.{Bounds}
+use Rattle.verbs_rules.specs.Within.{Bounds}
 use Rattle.object_places.specs.Objects.{Mark, Sends, Receives}
 use Rattle.actor_rules.specs.Calls.{MayCall, MayThread, after_call, after_thread}
 use Rattle.actor_rules.specs.Ready.{AreReady, IsOwnCall}

@@ -1,7 +1,7 @@
 //! The bounds that follow from the rules alone.
 ghost use Rattle.std.specs.Prelude.{ℕ, suc, List};
 ghost use Rattle.bus_core.specs.Mark.{Marked};
-ghost use Rattle.verbs_rules.specs.Sane.{Bounds};
+ghost use Rattle.verbs_rules.specs.Within.{Bounds};
 ghost use Rattle.verbs_types.specs.declared.call.Call.{Call};
 ghost use Rattle.verbs_types.specs.declared.declaration.Lines.{Lines};
 ghost use Rattle.object_places.specs.Objects.{Mark};

@@ -11,7 +11,7 @@ use Rattle.verbs_types.specs.declared.declaration.TheConstants.{FIRST_QP}
 use Rattle.verbs_types.specs.declared.state.QueuePair.{QueuePair}
 use Rattle.verbs_types.specs.Lines.{is_declared, is_among, is_cq_line, is_qp_line}
 use Rattle.verbs_rules.specs.Start.{start_pair, first_state, no_pair}
-use Rattle.verbs_rules.specs.Sane.{into}
+use Rattle.verbs_rules.specs.Within.{into}
 use Rattle.verbs_laws.proofs.Failing.{is_between-true}
 use Rattle.scenario_text.specs.Calls.{HasRoom}
 use Rattle.scenario_text.specs.Limits.{counted_into, completing_into}

@@ -2,7 +2,7 @@
 use Rattle.std.specs.Prelude.{ℕ, suc, ◌<◌, ◌≤◌, ◌^◌, List, length}
 use Rattle.verbs_types.specs.declared.call.Call.{Call}
 use Rattle.verbs_types.specs.declared.declaration.Lines.{Lines}
-use Rattle.verbs_rules.specs.Sane.{Bounds}
+use Rattle.verbs_rules.specs.Within.{Bounds}
 use Rattle.actor_map.specs.Sizes.{words_of}
 use Rattle.scenario_text.specs.Limits.{posted_on}
 use Rattle.scenario_text.specs.declared.scenario.ScenarioParts.{ScenarioParts}

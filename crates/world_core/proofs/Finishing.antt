@@ -6,7 +6,7 @@ use Rattle.bus_core.specs.Trace.{IsConsistent}
 use Rattle.verbs_types.specs.declared.call.Call.{Call}
 use Rattle.verbs_types.specs.declared.declaration.Lines.{Lines}
 use Rattle.verbs_types.specs.declared.entry.Entry.{Entry}
-use Rattle.verbs_rules.specs.Sane.{Bounds}
+use Rattle.verbs_rules.specs.Within.{Bounds}
 use Rattle.verbs_rules.specs.Start.{start}
 use Rattle.verbs_rules.specs.State.{Verbs}
 use Rattle.object_places.specs.Objects.{Mark}
