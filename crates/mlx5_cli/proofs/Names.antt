@@ -24,8 +24,8 @@ use Rattle.transcript_text.specs.Numbers.{IsCompletion, IsQueue, NamesDeclared}
 
 -- what lives is what is declared
 pub record Lives (d : Lines) (v : Verbs) : Type 0 where
-  pub pairs : v.pair_lives ≡ is_among FIRST_QP (length d.qps)
-  pub completions : v.completions_live ≡ is_among 0 (length d.cqs)
+  pub pairs : v.device.pair_lives ≡ is_among FIRST_QP (length d.qps)
+  pub completions : v.device.completions_live ≡ is_among 0 (length d.cqs)
 
 lives_published : (d : Lines) (v : Verbs) (cq : ℕ) (acts : List Act) → Lives d v → Lives d (publish v cq acts)
 lives_published d v cq [] l = l
@@ -40,7 +40,7 @@ lives_after d v (Ack cq index) l = record { pairs = l.pairs; completions = l.com
 lives_after d v (Fetch (Send qp) number) l = record { pairs = l.pairs; completions = l.completions }
 lives_after d v (Fetch (Recv qp) number) l = l
 lives_after d v (Fetch (Shared srq) number) l = l
-lives_after d v (Publish cq completion) l = lives_published d v cq v.owed l
+lives_after d v (Publish cq completion) l = lives_published d v cq v.device.owed l
 lives_after d v (Free srq) l = l
 lives_after d v (Arm cq kind index number) l = l
 lives_after d v (TakeEvent eq event) l = l
@@ -59,10 +59,10 @@ lives_after d v (Lost cq) l = l
 lives_after d v (Execute of command answer) l = l
 
 module _ (d : Lines) (v : Verbs) (l : Lives d v) where
-  pair_declared : (qp : ℕ) → IsTrue (v.pair_lives qp) → IsTrue (is_among FIRST_QP (length d.qps) qp)
+  pair_declared : (qp : ℕ) → IsTrue (v.device.pair_lives qp) → IsTrue (is_among FIRST_QP (length d.qps) qp)
   pair_declared qp h = subst (λ lives. IsTrue (lives qp)) l.pairs h
 
-  cq_declared : (cq : ℕ) → IsTrue (v.completions_live cq) → IsTrue (is_among 0 (length d.cqs) cq)
+  cq_declared : (cq : ℕ) → IsTrue (v.device.completions_live cq) → IsTrue (is_among 0 (length d.cqs) cq)
   cq_declared cq h = subst (λ lives. IsTrue (lives cq)) l.completions h
 
   queue_declared : (q : Queue) → IsTrue (queue_lives v q) → IsQueue d q
@@ -71,7 +71,7 @@ module _ (d : Lines) (v : Verbs) (l : Lives d v) where
   queue_declared (Shared srq) h = absurd (cc)
 
   completion_declared : (x : Completion) → IsTrue (names_living v x) → IsCompletion d x
-  completion_declared x h = let parts = and_parts (queue_lives v x.queue) (v.pair_lives x.qp) h in (queue_declared x.queue parts.0, pair_declared x.qp parts.1)
+  completion_declared x h = let parts = and_parts (queue_lives v x.queue) (v.device.pair_lives x.qp) h in (queue_declared x.queue parts.0, pair_declared x.qp parts.1)
 
   completions_declared : (xs : List Completion) → IsTrue (list_all (names_living v) xs) → All (IsCompletion d) xs
   completions_declared [] h = λ k e below. absurd (omega (arith, below))
@@ -83,13 +83,13 @@ module _ (d : Lines) (v : Verbs) (l : Lives d v) where
   objects_declared (Post queue items) h = queue_declared queue h
   objects_declared (PostFull queue pending head tail) h = queue_declared queue h
   objects_declared (Poll cq most completions) h =
-      let parts = and_parts (v.completions_live cq) (list_all (names_living v) completions) h in
+      let parts = and_parts (v.device.completions_live cq) (list_all (names_living v) completions) h in
       (cq_declared cq parts.0, completions_declared completions parts.1)
   objects_declared (Retire queue count) h = queue_declared queue h
   objects_declared (Ack cq index) h = cq_declared cq h
   objects_declared (Fetch queue number) h = queue_declared queue h
   objects_declared (Publish cq completion) h =
-      let parts = and_parts (v.completions_live cq) (names_living v completion) h in
+      let parts = and_parts (v.device.completions_live cq) (names_living v completion) h in
       (cq_declared cq parts.0, completion_declared completion parts.1)
   objects_declared (Free srq) h = absurd (false≢true h)
   objects_declared (Arm cq kind index number) h = absurd (false≢true h)

@@ -28,9 +28,9 @@ pub(crate) fn first_unpolled(
     cq: u32,
     count: usize,
 ) -> Result<Vec<Completion>, NoMemory>
-    requires live { IsTrue ((state_of state.now).completions_live cq) }
-    requires there { count ≤ length ((state_of state.now).completions cq).unpolled }
-    ensures { IfOk result (λ v. v.items ≡ map (λ (u : Unpolled). u.completion) (take count ((state_of state.now).completions cq).unpolled)) }
+    requires live { IsTrue ((state_of state.now).device.completions_live cq) }
+    requires there { count ≤ length ((state_of state.now).unpolled cq) }
+    ensures { IfOk result (λ v. v.items ≡ map (λ (u : Unpolled). u.completion) (take count ((state_of state.now).unpolled cq))) }
 {
     let mut completions = Vec::new(alloc);
     for unpolled in &state.unpolled(cq)[..count] {
@@ -41,8 +41,8 @@ pub(crate) fn first_unpolled(
 
 /// The completion that the adapter owes next.
 pub(crate) fn owed_completion(state: &Abstract) -> Completion
-    requires { (cq : ℕ) × (u : Unpolled) × (acts : List Act) × ((state_of state.now).owed ≡ Act.Complete cq u ∷ acts) }
-    ensures { (cq : ℕ) (u : Unpolled) (acts : List Act) → (state_of state.now).owed ≡ Act.Complete cq u ∷ acts → result ≡ u.completion }
+    requires { (cq : ℕ) × (u : Unpolled) × (acts : List Act) × ((state_of state.now).device.owed ≡ Act.Complete cq u ∷ acts) }
+    ensures { (cq : ℕ) (u : Unpolled) (acts : List Act) → (state_of state.now).device.owed ≡ Act.Complete cq u ∷ acts → result ≡ u.completion }
 {
     match state.owed() {
         Some(Act::Complete { owed, .. }) => owed.completion,

@@ -15,7 +15,7 @@ same_by_step : (v : Verbs) (actor : ℕ) (told what : What) → IsSameButTail to
 same_by_step v actor (PostFull queue pending head tail) (PostFull q p h other) same may_told may =
     let told_tail = (MayPostFull_by_step v actor queue pending head tail may_told).retired in
     let other_tail = (MayPostFull_by_step v actor q p h other may).retired in
-    let tails : tail ≡ other = told_tail ∙ (ap (λ (r : Queue). (v.queues r).retired) same.0 ∙ sym other_tail) in
+    let tails : tail ≡ other = told_tail ∙ (ap (λ (r : Queue). (v.settled r).retired) same.0 ∙ sym other_tail) in
     λ i. PostFull (same.0 i) (same.1 i) (same.2 i) (tails i)
 same_by_step v actor told what same may_told may = same
 

@@ -25,7 +25,7 @@ returns-in_ok-completions-in-3 c = λ e told.
     let note = c.args.note in
     let v = state_of c.args.self.now.state in
     let poll = poll_by_kind v note e.actor e.what told.noted.seen told.noted.note_is c.in-3.is told.may in
-    let taken : c.from_vec.result ≡ poll.completions = c.from_vec.ensures ∙ (c.in_ok-completions-in-3.ensures ∙ taken_front (v.completions note.object).unpolled poll.completions note.a note.b poll.may.front poll.count) in
+    let taken : c.from_vec.result ≡ poll.completions = c.from_vec.ensures ∙ (c.in_ok-completions-in-3.ensures ∙ taken_front (v.unpolled note.object) poll.completions note.a note.b poll.may.front poll.count) in
     record {
       what_is = ap (Poll note.object note.a) taken ∙ sym poll.what_is;
       same_state = refl;
