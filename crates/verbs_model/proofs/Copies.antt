@@ -7,7 +7,7 @@ use Rattle.verbs_model.specs.Held.{Held}
 use Rattle.verbs_model.specs.Inside.{held}
 use Rattle.verbs_model.specs.InsideAbstract.{tables}
 use Rattle.verbs_model.specs.InsideCompletions.{seen}
-use Rattle.verbs_rules.specs.State.{WorkQueue, CompletionQueue}
+use Rattle.verbs_rules.specs.OfOne.{WorkQueue, CompletionQueue}
 use Rattle.verbs_model.specs.Tables.{Tables}
 use Rattle.verbs_model.specs.contracts.abstract_state.AbstractClone.TheImpl as abstracts
 use Rattle.verbs_model.specs.contracts.work_queue.WorkQueueClone.TheImpl as queues

@@ -5,9 +5,8 @@ use Rattle.std.proofs.lemmas.List.{map-set, get_or-map, set-get_or, get_or_defau
 use Rattle.verbs_types.specs.declared.state.Unpolled.{Unpolled}
 use Rattle.verbs_model.specs.Held.{Held}
 use Rattle.verbs_model.specs.Ends.{no_held, queue_of, HaveRoom, ended}
-use Rattle.verbs_rules.specs.Rows.{end}
-use Rattle.verbs_rules.specs.Start.{no_queue}
-use Rattle.verbs_rules.specs.State.{WorkQueue}
+use Rattle.verbs_rules.specs.OfOne.{WorkQueue}
+use Rattle.verbs_model.specs.Queues.{no_queue, with_end}
 use Rattle.verbs_model.specs.Tables.{place_of}
 
 module _ (hs : List Held) (place : ℕ) (before later : Held) (read : before ≡ get_or hs place before) where
@@ -50,16 +49,16 @@ module _ (hs : List Held) (place : ℕ) (before later : Held) (read : before ≡
   room_at n enough = let new = ap (λ (h : Held). h.spare) (get_or-set_same hs place later no_held inside) in omega arith
 
   -- one more end is added
-  pub ended_more : (us : List Unpolled) (i : ℕ) (d : Unpolled) → i < length us → place ≡ place_of (get_or us i d).completion.queue → later.queue ≡ end before.queue (get_or us i d).number
+  pub ended_more : (us : List Unpolled) (i : ℕ) (d : Unpolled) → i < length us → place ≡ place_of (get_or us i d).completion.queue → later.queue ≡ with_end before.queue (get_or us i d).number
       → ended (map queue_of (set hs place later)) (drop (i + 1) us) ≡ ended (map queue_of hs) (drop i us)
   ended_more us i d l is_place made =
       let qs = map queue_of hs in
       let u = get_or us i d in
       let was : get_or qs place no_queue ≡ before.queue = get_or-map queue_of hs place before no_queue inside ∙ ap queue_of (sym read) in
-      let now : map queue_of (set hs place later) ≡ set qs place (end (get_or qs place no_queue) u.number) =
-      map-set queue_of hs place later ∙ ap (set qs place) (made ∙ ap (λ (q : WorkQueue). end q u.number) (sym was)) in
-      let at_place : map queue_of (set hs place later) ≡ set qs (place_of u.completion.queue) (end (get_or qs (place_of u.completion.queue) no_queue) u.number) =
-      now ∙ ap (λ (p : ℕ). set qs p (end (get_or qs p no_queue) u.number)) is_place in
+      let now : map queue_of (set hs place later) ≡ set qs place (with_end (get_or qs place no_queue) u.number) =
+      map-set queue_of hs place later ∙ ap (set qs place) (made ∙ ap (λ (q : WorkQueue). with_end q u.number) (sym was)) in
+      let at_place : map queue_of (set hs place later) ≡ set qs (place_of u.completion.queue) (with_end (get_or qs (place_of u.completion.queue) no_queue) u.number) =
+      now ∙ ap (λ (p : ℕ). set qs p (with_end (get_or qs p no_queue) u.number)) is_place in
       ap (λ (q : List WorkQueue). ended q (drop (i + 1) us)) at_place ∙ sym (at_drop_more (ended qs) us i d l)
 
 -- the completions after the first

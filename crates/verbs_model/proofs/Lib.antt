@@ -1,6 +1,8 @@
+pub mod Parts
 pub mod EndLemmas
 pub mod TableQueues
 pub mod Places
+pub mod OneCompletions
 pub mod Polls
 pub mod Beginnings
 pub mod Copies

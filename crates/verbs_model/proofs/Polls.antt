@@ -2,7 +2,7 @@
 use Rattle.std.proofs.Common.{◌≡◌, ℕ, ◌*◌, ◌<◌, ◌≤◌, refl, sym, ap, ◌∙◌, Bool, true, false, List, [], ◌∷◌, length, map, set, get_or, take, drop, arith}
 use Rattle.std.specs.List.{list_all}
 use Rattle.std.proofs.lemmas.Bool.{and_parts}
-use Rattle.std.proofs.lemmas.List.{length-map, length-take, length-set, get_or_read}
+use Rattle.std.proofs.lemmas.List.{length-map, length-take, length-set}
 use Rattle.std.proofs.lemmas.List.Elements.{All-nil, All-cons}
 use Rattle.verbs_types.specs.declared.completion.Completion.{Completion}
 use Rattle.verbs_types.specs.declared.completion.Queue.{Queue}
@@ -12,15 +12,16 @@ use Rattle.verbs_types.specs.declared.state.Unpolled.{Unpolled}
 use Rattle.verbs_model.specs.Ends.{ArePlaced, ended}
 use Rattle.verbs_rules.specs.Family.{put}
 use Rattle.verbs_types.specs.Lines.{is_among}
-use Rattle.verbs_rules.specs.Rows.{end, end_all, poll, with_completions}
+use Rattle.verbs_rules.specs.Rows.{poll}
 use Rattle.verbs_rules.specs.Rules.{queue_lives, names_living}
 use Rattle.verbs_rules.specs.Same.{same_queue, is_front}
-use Rattle.verbs_rules.specs.Start.{no_queue, no_completions}
-use Rattle.verbs_rules.specs.State.{WorkQueue, CompletionQueue, Verbs}
-use Rattle.verbs_model.specs.Tables.{Tables, place_of, queue_at, completions_at, completions_are_in, state_of}
+use Rattle.verbs_rules.specs.OfOne.{WorkQueue, CompletionQueue}
+use Rattle.verbs_model.specs.Queues.{AllQueues, parts_of, with_completions, with_end, no_queue}
+use Rattle.verbs_model.specs.Tables.{Tables, place_of, queue_at, completions_at, completions_are_in, all_of, state_of}
 use Rattle.verbs_laws.proofs.Families.{among}
-use Rattle.verbs_model.proofs.TableQueues.{queue_at-set, queue_at_place, state_of-set_completions, completions_at_place, completions_inside}
+use Rattle.verbs_model.proofs.TableQueues.{queue_at-set, queue_at_place, all_of-set_completions}
 use Rattle.verbs_laws.proofs.Sameness.{is_front-true}
+use Rattle.verbs_model.proofs.Parts.{with_ends, parts_of-polled}
 
 -- how many completions a front has
 pub front_length : (xs : List Completion) (us : List Unpolled) → is_front xs us ≡ true → length xs ≡ length (take (length xs) us)
@@ -65,27 +66,27 @@ placed_by_living pairs [] h = All-nil (λ (u : Unpolled). place_of u.completion.
 placed_by_living pairs (u ∷ us) h = All-cons (λ (v : Unpolled). place_of v.completion.queue < 2 * pairs) u us (place_inside pairs u.completion.queue h.0) (placed_by_living pairs us h.1)
 
 -- the family of the lists with ends is the family with ends
-state_of-ended : (t : Tables) (us : List Unpolled) → length t.queues ≡ 2 * length t.pairs → AreLiving (length t.pairs) us
-    → state_of (record t { queues = ended t.queues us }) ≡ record (state_of t) { queues = end_all (queue_at t) (map (λ (u : Unpolled). u.completion) us) us }
-state_of-ended t [] both living = refl
-state_of-ended t (u ∷ us) both living =
+all_of-ended : (t : Tables) (us : List Unpolled) → length t.queues ≡ 2 * length t.pairs → AreLiving (length t.pairs) us
+    → all_of (record t { queues = ended t.queues us }) ≡ record (all_of t) { queues = with_ends (queue_at t) (map (λ (u : Unpolled). u.completion) us) us }
+all_of-ended t [] both living = refl
+all_of-ended t (u ∷ us) both living =
     let q = u.completion.queue in
     let place = place_of q in
-    let e = end (get_or t.queues place no_queue) u.number in
+    let e = with_end (get_or t.queues place no_queue) u.number in
     let t' : Tables = record t { queues = set t.queues place e } in
     let lives = sym (lives_in_lem t q) ∙ living.0 in
     let inside : place < length t.queues = let in_pairs = place_inside (length t.pairs) q living.0 in omega arith in
-    let rest = state_of-ended t' us (length-set t.queues place e ∙ both) living.1 in
-    let ends : e ≡ end (queue_at t q) u.number = ap (λ (w : WorkQueue). end w u.number) (sym (queue_at_place t q lives)) in
-    let family : queue_at t' ≡ put same_queue (queue_at t) q (end (queue_at t q) u.number) =
+    let rest = all_of-ended t' us (length-set t.queues place e ∙ both) living.1 in
+    let ends : e ≡ with_end (queue_at t q) u.number = ap (λ (w : WorkQueue). with_end w u.number) (sym (queue_at_place t q lives)) in
+    let family : queue_at t' ≡ put same_queue (queue_at t) q (with_end (queue_at t q) u.number) =
     (λ i other. queue_at-set t q e lives inside other i) ∙ ap (put same_queue (queue_at t) q) ends in
-    rest ∙ ap (λ (f : Queue → WorkQueue). record (state_of t) { queues = end_all f (map (λ (w : Unpolled). w.completion) us) us }) family
+    rest ∙ ap (λ (f : Queue → WorkQueue). record (all_of t) { queues = with_ends f (map (λ (w : Unpolled). w.completion) us) us }) family
 
 -- ends are added for the completions that were taken alone
-end_all_front : (queues : Queue → WorkQueue) (xs : List Completion) (us : List Unpolled) → end_all queues xs (take (length xs) us) ≡ end_all queues xs us
-end_all_front queues [] us = refl
-end_all_front queues (x ∷ xs) [] = refl
-end_all_front queues (x ∷ xs) (u ∷ us) = end_all_front (put same_queue queues x.queue (end (queues x.queue) u.number)) xs us
+with_ends_front : (queues : Queue → WorkQueue) (xs : List Completion) (us : List Unpolled) → with_ends queues xs (take (length xs) us) ≡ with_ends queues xs us
+with_ends_front queues [] us = refl
+with_ends_front queues (x ∷ xs) [] = refl
+with_ends_front queues (x ∷ xs) (u ∷ us) = with_ends_front (put same_queue queues x.queue (with_end (queues x.queue) u.number)) xs us
 
 pub state_of-polled : (t : Tables) (cq : ℕ) (xs : List Completion) (queues : List WorkQueue) (before later : CompletionQueue)
     → length t.queues ≡ 2 * length t.pairs → completions_are_in t cq ≡ true → before ≡ completions_at t cq
@@ -96,16 +97,13 @@ state_of-polled t cq xs queues before later both lives read front named made pol
     let us = before.unpolled in
     let n = length xs in
     let t' : Tables = record t { queues = queues } in
-    let added : state_of t' ≡ record (state_of t) { queues = end_all (queue_at t) (map (λ (u : Unpolled). u.completion) (take n us)) (take n us) } =
-    ap (λ (q : List WorkQueue). state_of (record t { queues = q })) made ∙ state_of-ended t (take n us) both (living_front t xs us front named) in
-    let same : end_all (queue_at t) (map (λ (u : Unpolled). u.completion) (take n us)) (take n us) ≡ end_all (queue_at t) xs us =
-    ap (λ (ys : List Completion). end_all (queue_at t) ys (take n us)) (sym (is_front-true xs us front)) ∙ end_all_front (queue_at t) xs us in
-    let all_added : state_of t' ≡ record (state_of t) { queues = end_all (queue_at t) xs us } = added ∙ ap (λ (f : Queue → WorkQueue). record (state_of t) { queues = f }) same in
-    state_of-set_completions t' cq later lives
-    ∙ (ap (λ (v : Verbs). with_completions v cq later) all_added
-    ∙ (ap (with_completions (record (state_of t) { queues = end_all (queue_at t) xs us }) cq) polled
-    ∙ ap (λ (c : CompletionQueue). with_completions (record (state_of t) { queues = end_all (queue_at t) xs c.unpolled }) cq (record c { unpolled = drop n c.unpolled })) read))
-
--- a completion queue that was read at its place
-pub read_completions : (t : Tables) (cq : ℕ) (before : CompletionQueue) → completions_are_in t cq ≡ true → before ≡ get_or t.completions cq before → before ≡ completions_at t cq
-read_completions t cq before lives read = get_or_read t.completions cq before (completions_inside t cq lives) read no_completions ∙ sym (completions_at_place t cq lives)
+    let added : all_of t' ≡ record (all_of t) { queues = with_ends (queue_at t) (map (λ (u : Unpolled). u.completion) (take n us)) (take n us) } =
+    ap (λ (q : List WorkQueue). all_of (record t { queues = q })) made ∙ all_of-ended t (take n us) both (living_front t xs us front named) in
+    let same : with_ends (queue_at t) (map (λ (u : Unpolled). u.completion) (take n us)) (take n us) ≡ with_ends (queue_at t) xs us =
+    ap (λ (ys : List Completion). with_ends (queue_at t) ys (take n us)) (sym (is_front-true xs us front)) ∙ with_ends_front (queue_at t) xs us in
+    let all_added : all_of t' ≡ record (all_of t) { queues = with_ends (queue_at t) xs us } = added ∙ ap (λ (f : Queue → WorkQueue). record (all_of t) { queues = f }) same in
+    let polled_all = all_of-set_completions t' cq later lives
+    ∙ (ap (λ (v : AllQueues). with_completions v cq later) all_added
+    ∙ (ap (with_completions (record (all_of t) { queues = with_ends (queue_at t) xs us }) cq) polled
+    ∙ ap (λ (c : CompletionQueue). with_completions (record (all_of t) { queues = with_ends (queue_at t) xs c.unpolled }) cq (record c { unpolled = drop n c.unpolled })) read)) in
+    ap parts_of polled_all ∙ parts_of-polled (all_of t) cq xs

@@ -1,17 +1,16 @@
 -- One changed value of a list is one changed value of the family that the list gives.
-use Rattle.std.proofs.Common.{◌≡◌, ℕ, ◌-◌, ◌<◌, ◌≢◌, ◌==◌, refl, sym, ap, ◌∙◌, subst, true, false, Bool, length, set, get_or, inl, inr, arith, length-set, get_or-set_same, get_or-set_other, eqb-true}
+use Rattle.std.proofs.Common.{◌≡◌, ℕ, ◌<◌, ◌≢◌, ◌==◌, refl, sym, ap, ◌∙◌, subst, true, false, length, set, get_or, inl, inr, arith, length-set, get_or-set_same, get_or-set_other, eqb-true}
 use Rattle.std.proofs.lemmas.Bool.{cases_Bool, cond-true, cond-false, eqb-false}
 use Rattle.verbs_types.specs.declared.completion.Queue.{Queue}
 use Rattle.verbs_types.specs.declared.completion.Queue.TheVariants.{Send, Recv, Shared}
 use Rattle.verbs_types.specs.declared.declaration.TheConstants.{FIRST_QP}
-use Rattle.verbs_rules.specs.Family.{put}
+use Rattle.verbs_rules.specs.Family.{put, same_number}
 use Rattle.verbs_types.specs.Lines.{is_among}
 use Rattle.verbs_rules.specs.Rules.{queue_lives}
-use Rattle.verbs_rules.specs.Rows.{with_queue, with_completions}
 use Rattle.verbs_rules.specs.Same.{same_queue}
-use Rattle.verbs_rules.specs.Start.{no_queue, no_completions}
-use Rattle.verbs_rules.specs.State.{WorkQueue, CompletionQueue}
-use Rattle.verbs_model.specs.Tables.{Tables, place_of, completions_are_in, queue_at, completions_at, state_of}
+use Rattle.verbs_rules.specs.OfOne.{WorkQueue, CompletionQueue}
+use Rattle.verbs_model.specs.Queues.{no_queue, no_completions, with_queue, with_completions}
+use Rattle.verbs_model.specs.Tables.{Tables, place_of, completions_are_in, queue_at, completions_at, all_of, state_of}
 use Rattle.verbs_laws.proofs.Sameness.{same_queue-true}
 use Rattle.verbs_laws.proofs.Families.{among, put_at, put_beside}
 
@@ -63,9 +62,9 @@ queue_at-set t queue u lives inside other =
       ]
     ]
 
-pub state_of-set_queue : (t : Tables) (queue : Queue) (u : WorkQueue) → queue_lives (state_of t) queue ≡ true → place_of queue < length t.queues
-    → state_of (record t { queues = set t.queues (place_of queue) u }) ≡ with_queue (state_of t) queue u
-state_of-set_queue t queue u lives inside = λ i. record (state_of t) { queues = λ other. queue_at-set t queue u lives inside other i }
+pub all_of-set_queue : (t : Tables) (queue : Queue) (u : WorkQueue) → queue_lives (state_of t) queue ≡ true → place_of queue < length t.queues
+    → all_of (record t { queues = set t.queues (place_of queue) u }) ≡ with_queue (all_of t) queue u
+all_of-set_queue t queue u lives inside = λ i. record (all_of t) { queues = λ other. queue_at-set t queue u lives inside other i }
 
 -- the same for completion queues
 pub completions_at_place : (t : Tables) (cq : ℕ) → completions_are_in t cq ≡ true → completions_at t cq ≡ get_or t.completions cq no_completions
@@ -81,24 +80,24 @@ lives_with_completions : (t : Tables) (cq : ℕ) (c : CompletionQueue) (other : 
 lives_with_completions t cq c other = ap (λ (n : ℕ). is_among 0 n other) (length-set t.completions cq c)
 
 pub completions_at-set : (t : Tables) (cq : ℕ) (c : CompletionQueue) → completions_are_in t cq ≡ true
-    → (other : ℕ) → completions_at (with_completions_at t cq c) other ≡ put (λ (m n : ℕ). m == n) (completions_at t) cq c other
+    → (other : ℕ) → completions_at (with_completions_at t cq c) other ≡ put same_number (completions_at t) cq c other
 completions_at-set t cq c lives other =
     elim (cases_Bool (other == cq)) [
       | inl same ↦
           let is : other ≡ cq = eqb-true other cq same in
           let at_it : completions_at (with_completions_at t cq c) cq ≡ c = completions_at_place (with_completions_at t cq c) cq (lives_with_completions t cq c cq ∙ lives) ∙ get_or-set_same t.completions cq c no_completions (completions_inside t cq lives) in
-          subst (λ (q : ℕ). completions_at (with_completions_at t cq c) q ≡ c) (sym is) at_it ∙ sym (put_at (λ (m n : ℕ). m == n) (completions_at t) cq c other same)
+          subst (λ (q : ℕ). completions_at (with_completions_at t cq c) q ≡ c) (sym is) at_it ∙ sym (put_at same_number (completions_at t) cq c other same)
       | inr beside ↦ elim (cases_Bool (completions_are_in t other)) [
         | inl lives_too ↦
             completions_at_place (with_completions_at t cq c) other (lives_with_completions t cq c other ∙ lives_too)
             ∙ (get_or-set_other t.completions cq other c no_completions (eqb-false other cq beside)
-            ∙ (sym (completions_at_place t other lives_too) ∙ sym (put_beside (λ (m n : ℕ). m == n) (completions_at t) cq c other beside)))
+            ∙ (sym (completions_at_place t other lives_too) ∙ sym (put_beside same_number (completions_at t) cq c other beside)))
         | inr dead ↦
             cond-false _ _ _ (lives_with_completions t cq c other ∙ dead)
-            ∙ (sym (cond-false _ _ _ dead) ∙ sym (put_beside (λ (m n : ℕ). m == n) (completions_at t) cq c other beside))
+            ∙ (sym (cond-false _ _ _ dead) ∙ sym (put_beside same_number (completions_at t) cq c other beside))
       ]
     ]
 
-pub state_of-set_completions : (t : Tables) (cq : ℕ) (c : CompletionQueue) → completions_are_in t cq ≡ true
-    → state_of (record t { completions = set t.completions cq c }) ≡ with_completions (state_of t) cq c
-state_of-set_completions t cq c lives = λ i. record (state_of t) { completions = λ other. completions_at-set t cq c lives other i; completions_live = λ other. lives_with_completions t cq c other i }
+pub all_of-set_completions : (t : Tables) (cq : ℕ) (c : CompletionQueue) → completions_are_in t cq ≡ true
+    → all_of (record t { completions = set t.completions cq c }) ≡ with_completions (all_of t) cq c
+all_of-set_completions t cq c lives = λ i. record (all_of t) { completions = λ other. completions_at-set t cq c lives other i; completions_live = λ other. lives_with_completions t cq c other i }

@@ -4,8 +4,9 @@ use Rattle.verbs_types.specs.declared.declaration.QpLine.{QpLine}
 use Rattle.verbs_types.specs.declared.declaration.Lines.{Lines}
 use Rattle.verbs_types.specs.declared.declaration.TheConstants.{FIRST_QP}
 use Rattle.verbs_types.specs.declared.state.QueuePair.{QueuePair}
-use Rattle.verbs_rules.specs.Start.{fresh_queue, first_state}
-use Rattle.verbs_rules.specs.State.{WorkQueue}
+use Rattle.verbs_rules.specs.OfOne.{WorkQueue}
+use Rattle.verbs_rules.specs.Start.{first_state}
+use Rattle.verbs_model.specs.Queues.{fresh_queue}
 
 -- the send queue and the receive queue of a line
 abbrev pub both_queues : QpLine → List WorkQueue

@@ -2,9 +2,8 @@
 use Rattle.std.specs.Prelude.{ℕ, ◌<◌, ◌≤◌, List, [], ◌∷◌, All, slice_index_or, slice_set}
 use Rattle.verbs_types.specs.declared.state.Unpolled.{Unpolled}
 use Rattle.verbs_model.specs.Held.{Held}
-use Rattle.verbs_rules.specs.Rows.{end}
-use Rattle.verbs_rules.specs.Start.{no_queue}
-use Rattle.verbs_rules.specs.State.{WorkQueue}
+use Rattle.verbs_model.specs.Queues.{no_queue, with_end}
+use Rattle.verbs_rules.specs.OfOne.{WorkQueue}
 use Rattle.verbs_model.specs.Tables.{place_of}
 
 abbrev pub no_held : Held
@@ -21,7 +20,7 @@ HaveRoom queues ends taken = All (λ (u : Unpolled). ends ≤ (slice_index_or qu
 -- each completion adds its request's number to its queue
 abbrev pub ended : List WorkQueue → List Unpolled → List WorkQueue
 ended queues [] = queues
-ended queues (u ∷ us) = ended (slice_set queues (place_of u.completion.queue) (end (slice_index_or queues (place_of u.completion.queue) no_queue) u.number)) us
+ended queues (u ∷ us) = ended (slice_set queues (place_of u.completion.queue) (with_end (slice_index_or queues (place_of u.completion.queue) no_queue) u.number)) us
 
 abbrev pub queue_of : Held → WorkQueue
 queue_of h = h.queue

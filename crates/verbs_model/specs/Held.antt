@@ -1,6 +1,6 @@
 -- A work queue as it is kept.
 use Rattle.std.specs.Prelude.{ℕ}
-use Rattle.verbs_rules.specs.State.{WorkQueue}
+use Rattle.verbs_rules.specs.OfOne.{WorkQueue}
 
 pub record Held : Type 0 where
   pub queue : WorkQueue

@@ -1,3 +1,4 @@
+pub mod Queues
 pub mod Held
 pub mod Inside
 pub mod InsideCompletions

@@ -7,8 +7,10 @@ use Rattle.verbs_types.specs.declared.declaration.TheConstants.{FIRST_QP}
 use Rattle.verbs_types.specs.declared.state.Act.{Act}
 use Rattle.verbs_types.specs.declared.state.QueuePair.{QueuePair}
 use Rattle.verbs_types.specs.Lines.{is_among}
-use Rattle.verbs_rules.specs.Start.{no_queue, no_completions, no_pair}
-use Rattle.verbs_rules.specs.State.{WorkQueue, CompletionQueue, Verbs}
+use Rattle.verbs_rules.specs.OfOne.{WorkQueue, CompletionQueue}
+use Rattle.verbs_rules.specs.Start.{no_pair}
+use Rattle.verbs_rules.specs.State.{Verbs}
+use Rattle.verbs_model.specs.Queues.{AllQueues, parts_of, no_queue, no_completions}
 
 pub record Tables : Type 0 where
   -- the send queue of the queue pair at place i stands at 2i, its receive queue at 2i + 1
@@ -39,8 +41,8 @@ pair_at t qp = if pair_is_in t qp then slice_index_or t.pairs (qp - FIRST_QP) no
 abbrev pub completions_at : Tables → ℕ → CompletionQueue
 completions_at t cq = if completions_are_in t cq then slice_index_or t.completions cq no_completions else no_completions
 
-abbrev pub state_of : Tables → Verbs
-state_of t = record {
+abbrev pub all_of : Tables → AllQueues
+all_of t = record {
   queues = queue_at t;
   completions = completions_at t;
   pairs = pair_at t;
@@ -48,3 +50,6 @@ state_of t = record {
   completions_live = completions_are_in t;
   owed = option_to_list t.owed;
 }
+
+abbrev pub state_of : Tables → Verbs
+state_of t = parts_of (all_of t)

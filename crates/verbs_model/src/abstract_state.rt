@@ -1,6 +1,7 @@
 //! The state of verbs queues, as lists of objects.
 ghost use Rattle.std.specs.Prelude.{◌≡◌, ◌+◌, ◌-◌, ◌*◌, ◌<◌, ◌≤◌, length, IsTrue, OnOk, OnErr};
 ghost use Rattle.std.specs.Option.{option_to_list};
+ghost use Rattle.verbs_rules.specs.OfOne.{queue_in, completions_in};
 ghost use Rattle.verbs_rules.specs.Rules.{queue_lives};
 ghost use Rattle.verbs_model.specs.Tables as tables;
 ghost use Rattle.verbs_model.specs.Tables.{state_of};
@@ -43,7 +44,7 @@ impl Model for Abstract {
 impl Abstract {
     /// Whether the queue pair lives.
     pub(crate) fn has_pair(&self, qp: u32) -> bool
-        ensures { result ≡ (state_of self.now).pair_lives qp }
+        ensures { result ≡ (state_of self.now).device.pair_lives qp }
     {
         is_among(FIRST_QP, self.pairs.len(), qp)
     }
@@ -60,15 +61,15 @@ impl Abstract {
 
     /// Whether the completion queue lives.
     pub(crate) fn has_completions(&self, cq: u32) -> bool
-        ensures { result ≡ (state_of self.now).completions_live cq }
+        ensures { result ≡ (state_of self.now).device.completions_live cq }
     {
         is_among(0, self.completions.len(), cq)
     }
 
     /// A queue pair that lives.
     pub(crate) fn pair(&self, qp: u32) -> QueuePair
-        requires { IsTrue ((state_of self.now).pair_lives qp) }
-        ensures { result ≡ (state_of self.now).pairs qp }
+        requires { IsTrue ((state_of self.now).device.pair_lives qp) }
+        ensures { result ≡ (state_of self.now).device.pairs qp }
     {
         self.pairs[(qp - FIRST_QP) as usize]
     }
@@ -87,30 +88,30 @@ impl Abstract {
     /// A queue that lives.
     pub(crate) fn queue(&self, queue: Queue) -> &WorkQueue
         requires { IsTrue (queue_lives (state_of self.now) queue) }
-        ensures { result.now.queue ≡ (state_of self.now).queues queue }
+        ensures { result.now.queue ≡ queue_in (state_of self.now) queue }
     {
         &self.queues[self.place(queue)]
     }
 
     /// A completion queue that lives.
     pub(crate) fn completions(&self, cq: u32) -> &CompletionQueue
-        requires { IsTrue ((state_of self.now).completions_live cq) }
-        ensures { result.now ≡ (state_of self.now).completions cq }
+        requires { IsTrue ((state_of self.now).device.completions_live cq) }
+        ensures { result.now ≡ completions_in (state_of self.now) cq }
     {
         &self.completions[cq as usize]
     }
 
     /// The completions of a completion queue that no poll took, the oldest first.
     pub fn unpolled(&self, cq: u32) -> &[Unpolled]
-        requires { IsTrue ((state_of self.now).completions_live cq) }
-        ensures { result.now ≡ ((state_of self.now).completions cq).unpolled }
+        requires { IsTrue ((state_of self.now).device.completions_live cq) }
+        ensures { result.now ≡ (state_of self.now).unpolled cq }
     {
         self.completions(cq).unpolled()
     }
 
     /// What the adapter owes next, if it is in a work entry that is not finished.
     pub fn owed(&self) -> Option<Act>
-        ensures { option_to_list result ≡ (state_of self.now).owed }
+        ensures { option_to_list result ≡ (state_of self.now).device.owed }
     {
         self.owed
     }

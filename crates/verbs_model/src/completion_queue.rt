@@ -1,7 +1,8 @@
 //! A completion queue.
-ghost use Rattle.std.specs.Prelude.{◌≡◌, ◌+◌, ◌-◌, ◌^◌, ◌<◌, ◌≤◌, ◌++◌, [], ◌∷◌, nat_lt, length, drop, take, OnOk, OnErr};
+ghost use Rattle.std.specs.Prelude.{◌≡◌, ◌-◌, ◌^◌, ◌<◌, ◌≤◌, [], nat_lt, length, drop, take, OnOk, OnErr};
 ghost use Rattle.verbs_rules.specs.Rows as rows;
 ghost use Rattle.verbs_rules.specs.Rules.{first_failing};
+ghost use Rattle.verbs_model.specs.Queues.{published_more};
 
 use crate::rules::is_front;
 use std::alloc::{AllocError, Global};
@@ -23,7 +24,7 @@ pub(crate) struct CompletionQueue {
 }
 
 impl Model for CompletionQueue {
-    ghost use Rattle.verbs_rules.specs.State.{CompletionQueue};
+    ghost use Rattle.verbs_rules.specs.OfOne.{CompletionQueue};
 
     ghost Value = { CompletionQueue };
 
@@ -105,7 +106,7 @@ impl CompletionQueue {
     /// Appends a completion. Where memory runs out nothing has changed.
     pub(crate) fn publish(&mut self, completion: Unpolled) -> Result<(), AllocError>
         ensures made { OnOk result
-            (self.new ≡ record self.old { produced = self.old.produced + 1; unpolled = self.old.unpolled ++ completion ∷ [] }) }
+            (self.new ≡ published_more self.old completion) }
         ensures unchanged { OnErr result (self.new ≡ self.old) }
     {
         self.published.push(completion)?;

@@ -119,7 +119,7 @@ impl Abstract {
     }
 
     fn publish_fault(&self, cq: u32, completion: &Completion) -> Option<RuleName>
-        requires { IsTrue ((state_of self.now).completions_live cq) }
+        requires { IsTrue ((state_of self.now).device.completions_live cq) }
         ensures { result ≡ rules.first_failing (rows.publish_needs (state_of self.now) cq completion.now) }
     {
         match self.owed() {

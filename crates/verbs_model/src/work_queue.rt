@@ -4,7 +4,7 @@ ghost use Rattle.std.specs.List.{list_all};
 ghost use Rattle.std.specs.Option.{option_copied};
 ghost use Rattle.verbs_rules.specs.Rows as rows;
 ghost use Rattle.verbs_rules.specs.Rules.{first_failing};
-ghost use Rattle.verbs_rules.specs.Start.{fresh_queue};
+ghost use Rattle.verbs_model.specs.Queues.{fresh_queue, posted_more, retired_to, taken_to, with_end};
 
 use crate::rules::item_fits;
 use std::alloc::{AllocError, Global};
@@ -117,7 +117,7 @@ impl WorkQueue {
 
     /// Appends the items. Where memory runs out nothing has changed.
     pub(crate) fn post(&mut self, items: &[Item]) -> Result<(), AllocError>
-        ensures made { OnOk result (self.new.queue ≡ rows.post self.old.queue items.now) }
+        ensures made { OnOk result (self.new.queue ≡ posted_more self.old.queue items.now) }
         ensures unchanged { OnErr result (self.new.queue ≡ self.old.queue) }
     {
         self.posted.extend_with_clones(items)
@@ -125,7 +125,7 @@ impl WorkQueue {
 
     /// Takes the oldest end, which is this count, and retires up to it.
     pub(crate) fn retire(&mut self, count: u64)
-        ensures { self.new.queue ≡ rows.retire self.old.queue count }
+        ensures { self.new.queue ≡ retired_to self.old.queue count }
     {
         let _oldest = self.ends.pop_front();
         self.retired = count;
@@ -133,7 +133,7 @@ impl WorkQueue {
 
     /// Notes that the adapter took the requests up to this number.
     pub(crate) fn take(&mut self, number: u64)
-        ensures { self.new.queue ≡ rows.take self.old.queue number }
+        ensures { self.new.queue ≡ taken_to self.old.queue number }
     {
         self.taken = number;
     }
@@ -150,7 +150,7 @@ impl WorkQueue {
     /// Adds the number of a request whose completion was polled.
     pub(crate) fn end(&mut self, number: u64)
         requires { 0 < self.old.spare }
-        ensures queue { self.new.queue ≡ rows.end self.old.queue number }
+        ensures queue { self.new.queue ≡ with_end self.old.queue number }
         ensures spare { self.new.spare + 1 ≡ self.old.spare }
     {
         self.ends.push_back_reserved(number);

@@ -5,6 +5,7 @@ ghost use Rattle.verbs_model.specs.Beginning.{both_queues, pair_from};
 ghost use Rattle.verbs_model.specs.Ends.{queue_of};
 ghost use Rattle.verbs_types.specs.Lines.{is_declared, is_qp_line, is_cq_line};
 ghost use Rattle.verbs_rules.specs.Start as beginning;
+ghost use Rattle.verbs_model.specs.Queues.{fresh_completions};
 ghost use Rattle.verbs_model.specs.Tables.{state_of};
 
 use crate::abstract_state::Abstract;
@@ -63,7 +64,7 @@ fn first_pairs(alloc: Global, lines: &Lines) -> Result<Vec<QueuePair>, AllocErro
 
 fn first_completions(alloc: Global, lines: &Lines) -> Result<Vec<CompletionQueue>, AllocError>
     requires { IsTrue (list_all (is_cq_line lines.now) lines.now.cqs) }
-    ensures { IfOk result (λ v. v.items ≡ map beginning.fresh_completions lines.now.cqs) }
+    ensures { IfOk result (λ v. v.items ≡ map fresh_completions lines.now.cqs) }
 {
     let mut completions = Vec::new(alloc);
     for line in lines.cqs.as_slice() {

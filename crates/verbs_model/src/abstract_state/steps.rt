@@ -17,7 +17,7 @@ impl Abstract {
     pub(crate) fn post(&mut self, queue: Queue, items: &[Item]) -> Result<(), AllocError>
         requires { IsTrue (queue_lives (state_of self.old) queue) }
         ensures made { OnOk result
-            (state_of self.new ≡ rows.with_queue (state_of self.old) queue (rows.post ((state_of self.old).queues queue) items.now)) }
+            (state_of self.new ≡ rows.post (state_of self.old) queue items.now) }
         ensures unchanged { OnErr result (self.new ≡ self.old) }
     {
         let place = self.place(queue);
@@ -27,7 +27,7 @@ impl Abstract {
     /// The queue's requests are retired up to this count.
     pub(crate) fn retire(&mut self, queue: Queue, count: u64)
         requires { IsTrue (queue_lives (state_of self.old) queue) }
-        ensures { state_of self.new ≡ rows.with_queue (state_of self.old) queue (rows.retire ((state_of self.old).queues queue) count) }
+        ensures { state_of self.new ≡ rows.retire (state_of self.old) queue count }
     {
         let place = self.place(queue);
         self.queues[place].retire(count);
@@ -35,9 +35,9 @@ impl Abstract {
 
     /// A poll took these completions from the front. Where memory runs out nothing has changed.
     pub(crate) fn poll(&mut self, cq: u32, completions: &[Completion]) -> Result<(), AllocError>
-        requires lives { IsTrue ((state_of self.old).completions_live cq) }
+        requires lives { IsTrue ((state_of self.old).device.completions_live cq) }
         requires named { IsTrue (list_all (names_living (state_of self.old)) completions.now) }
-        requires front { IsTrue (is_front completions.now ((state_of self.old).completions cq).unpolled) }
+        requires front { IsTrue (is_front completions.now ((state_of self.old).unpolled cq)) }
         ensures made { OnOk result (state_of self.new ≡ rows.poll (state_of self.old) cq completions.now) }
         ensures unchanged { OnErr result (self.new ≡ self.old) }
     {
@@ -51,9 +51,9 @@ impl Abstract {
 
     /// The consumer index is now this one.
     pub(crate) fn ack(&mut self, cq: u32, index: u64)
-        requires lives { IsTrue ((state_of self.old).completions_live cq) }
-        requires oldest { index ≡ ((state_of self.old).completions cq).produced - length ((state_of self.old).completions cq).unpolled }
-        ensures { state_of self.new ≡ rows.with_completions (state_of self.old) cq (record ((state_of self.old).completions cq) { acked = index }) }
+        requires lives { IsTrue ((state_of self.old).device.completions_live cq) }
+        requires oldest { index ≡ (state_of self.old).device.produced cq - length ((state_of self.old).unpolled cq) }
+        ensures { state_of self.new ≡ rows.ack (state_of self.old) cq index }
     {
         self.completions[cq as usize].ack(index);
     }
@@ -74,8 +74,8 @@ impl Abstract {
 
     /// The completion that the adapter owes is written. Where memory runs out nothing has changed.
     pub(crate) fn publish(&mut self, cq: u32) -> Result<(), AllocError>
-        requires { IsTrue ((state_of self.old).completions_live cq) }
-        ensures made { OnOk result (state_of self.new ≡ rows.publish (state_of self.old) cq (state_of self.old).owed) }
+        requires { IsTrue ((state_of self.old).device.completions_live cq) }
+        ensures made { OnOk result (state_of self.new ≡ rows.publish (state_of self.old) cq (state_of self.old).device.owed) }
         ensures unchanged { OnErr result (self.new ≡ self.old) }
     {
         if let Some(Act::Complete { owed, .. }) = self.owed {

@@ -4,7 +4,7 @@ use Rattle.verbs_types.specs.declared.completion.Queue.{Queue}
 use Rattle.verbs_types.specs.declared.completion.Queue.TheVariants.{Send}
 use Rattle.verbs_rules.specs.Rows.{acts_of}
 use Rattle.verbs_rules.specs.Rules.{queue_lives}
-use Rattle.verbs_rules.specs.State.{WorkQueue}
+use Rattle.verbs_rules.specs.OfOne.{WorkQueue}
 use Rattle.verbs_model.specs.Tables.{Tables, state_of, queue_at, pair_at, pair_is_in}
 use Rattle.verbs_model.proofs.Places.{fetched}
 use Rattle.verbs_model.proofs.abstract_state.Abstract.fetch.Goals as goal

@@ -8,9 +8,10 @@ use Rattle.verbs_model.specs.Held.{Held}
 use Rattle.verbs_model.specs.InsideAbstract.{tables}
 use Rattle.verbs_rules.specs.Rules.{names_living}
 use Rattle.verbs_rules.specs.Same.{is_front}
-use Rattle.verbs_rules.specs.State.{WorkQueue, CompletionQueue}
+use Rattle.verbs_rules.specs.OfOne.{WorkQueue, CompletionQueue}
 use Rattle.verbs_model.specs.Tables.{Tables, completions_at, completions_are_in, state_of}
-use Rattle.verbs_model.proofs.Polls.{front_length, front_within, living_front, placed_by_living, read_completions, state_of-polled}
+use Rattle.verbs_model.proofs.OneCompletions.{read_completions}
+use Rattle.verbs_model.proofs.Polls.{front_length, front_within, living_front, placed_by_living, state_of-polled}
 use Rattle.verbs_model.proofs.abstract_state.Abstract.poll.Goals as goal
 use Rattle.verbs_model.proofs.abstract_state.Abstract.poll.Goals.{After-unpolled, After-deref_mut-2}
 

@@ -1,6 +1,6 @@
 -- The completion queues of the lines so far.
 use Rattle.std.proofs.Common.{◌≡◌, map, take}
-use Rattle.verbs_rules.specs.Start.{fresh_completions}
+use Rattle.verbs_model.specs.Queues.{fresh_completions}
 use Rattle.verbs_model.proofs.abstract_state.beginning.first_completions.Given as goal
 
 abbrev pub invariant-loop-line : goal.invariant-loop-line
