@@ -18,7 +18,8 @@ use Rattle.verbs_types.specs.declared.completion.Queue.TheVariants.{Send}
 use Rattle.object_places.specs.Objects.{Mark, Lives, Completions, Sends}
 use Rattle.object_places.specs.Apart.{ArePlaced, AreApart}
 use Rattle.actor_rules.specs.Thread.{Thread}
-use Rattle.actor_rules.specs.Actors.{Actors, MayAny, after, says}
+use Rattle.actor_rules.specs.Actors.{Actors, after, says}
+use Rattle.actor_rules.specs.Roles.{MayAny}
 use Rattle.actor_rules.specs.Dues.{dues_at}
 use Rattle.verbs_rules.specs.Within.{Bounds, InBounds}
 use Rattle.actor_rules.proofs.View.{View, view}

@@ -15,12 +15,13 @@ use Rattle.verbs_rules.specs.Running.{Running}
 use Rattle.actor_map.specs.Start.{start_words}
 use Rattle.object_places.specs.Apart.{ArePlaced, AreApart, AreAtStart}
 use Rattle.object_places.specs.Objects.{Mark}
-use Rattle.actor_rules.specs.Actors.{Actors, May, fresh_actors, by, after_by, part, what_of, posted_with}
+use Rattle.actor_rules.specs.Actors.{Actors, fresh_actors, by, after_by, what_of, posted_with}
+use Rattle.actor_rules.specs.Roles.{May, part}
 use Rattle.actor_rules.specs.Calls.{MayCall, after_call, call_says}
 use Rattle.actor_rules.specs.Dues.{dues_at}
 use Rattle.actor_rules.specs.Family.{put_number}
 use Rattle.actor_rules.specs.Ready.{AreReady, first_dues}
-use Rattle.actor_rules.specs.Run.{IsRun, IsHistory, history}
+use Rattle.actor_rules.specs.Run.{Phases, IsRun, IsHistory, whole, history}
 use Rattle.actor_rules.specs.Thread.{Thread}
 use Rattle.actor_rules.proofs.AdapterGoes.{adapter_goes}
 use Rattle.actor_rules.proofs.EndGoes.{end_goes}
@@ -29,7 +30,8 @@ use Rattle.actor_rules.proofs.PollGoes.{poll_goes, drain_goes}
 use Rattle.actor_rules.proofs.PostCalls.{post_call, receive_call}
 use Rattle.actor_rules.proofs.PostGoes as post
 use Rattle.actor_rules.proofs.StartHolds.{CanAct, start_holds, first_owed}
-use Rattle.actor_rules.proofs.Woven.{all_keep, turns_follow, legal_turns, answered_turns}
+use Rattle.actor_rules.proofs.Phases.{run_keeps}
+use Rattle.actor_rules.proofs.Woven.{turns_follow, legal_turns, answered_turns}
 
 module _ (d : Lines) (programs : List (List Call)) (bounds : Bounds) (map_ok : IsMapped d) (m : Memory) (w : Actors) (r : Running) (x : Marked Mark) (holds : Holds d programs bounds m w r) (tells : Tells m x.entry) (t : ℕ) (actor : x.entry.actor ≡ suc t) where
   abbrev s : Thread
@@ -61,12 +63,13 @@ step d programs bounds map_ok m w r x holds tells may = by_actor x.entry.actor r
     by_actor (suc t) is may = by_calls d programs bounds map_ok m w r x holds tells t is (w.threads (suc t)).calls refl may
 
 -- what a run says
-pub woven : ArePlaced → AreApart → AreAtStart → (d : Lines) (programs : List (List Call)) (bounds : Bounds) (trace : List (Marked Mark)) → AreReady d programs bounds → IsRun d programs trace → IsHistory d programs (history d programs trace)
-woven placed apart starts d programs bounds trace ready run =
+pub woven : ArePlaced → AreApart → AreAtStart → (d : Lines) (programs : List (List Call)) (bounds : Bounds) (phases : Phases) → AreReady d programs bounds → IsRun d programs phases → IsHistory d programs (history d programs (whole phases))
+woven placed apart starts d programs bounds phases ready run =
+    let trace : List (Marked Mark) = whole phases in
     let map_ok : IsMapped d = record { declared = ready.declared; placed = placed; apart = apart } in
     let begins : CanAct d programs bounds = record { map = map_ok; starts = starts; ready = ready } in
     let first : Running = record { verbs = start d; owed = dues_at (first_dues programs) } in
-    let follows = turns_follow d programs bounds (step d programs bounds map_ok) trace (start_words d 1) (fresh_actors d programs) first (start_holds d programs bounds begins) run.consistent (all_keep d trace (fresh_actors d programs) run.keeps) in
+    let follows = turns_follow d programs bounds (step d programs bounds map_ok) trace (start_words d 1) (fresh_actors d programs) first (start_holds d programs bounds begins) run.consistent (run_keeps d programs phases run) in
     record {
       legal = legal_turns first (history d programs trace) follows;
       answered = λ t. subst (λ (ds : List Due). Follows MayAnswer after_answer ds (own_entries (suc t) (history d programs trace))) (first_owed d programs programs t) (answered_turns t (history d programs trace) first follows);

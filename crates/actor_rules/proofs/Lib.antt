@@ -14,6 +14,7 @@ pub mod Frame
 pub mod Growing
 pub mod Kept
 pub mod Woven
+pub mod Phases
 pub mod StartHolds
 pub mod EndGoes
 pub mod PostOutcome

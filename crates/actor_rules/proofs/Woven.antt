@@ -14,7 +14,8 @@ use Rattle.verbs_rules.specs.Answered.{Due, MayAnswer, after_answer, own_entries
 use Rattle.verbs_rules.specs.Legal.{IsLegal}
 use Rattle.verbs_rules.specs.Running.{Running, after_turn}
 use Rattle.object_places.specs.Objects.{Mark}
-use Rattle.actor_rules.specs.Actors.{Actors, Knows, part, May, MayAny, next, after, after_by, says}
+use Rattle.actor_rules.specs.Actors.{Actors, after, after_by, says}
+use Rattle.actor_rules.specs.Roles.{Knows, part, May, MayAny, next}
 use Rattle.actor_rules.specs.Run.{own}
 use Rattle.actor_rules.proofs.Holding.{Holds, Goes, IsDue, MayTurn, Step}
 use Rattle.verbs_rules.specs.Within.{Bounds}

@@ -30,27 +30,9 @@ pub record Actors : Type 0 where
 abbrev pub fresh_actors : Lines → List (List Call) → Actors
 fresh_actors d programs = record { adapter = fresh_adapter d; threads = fresh_thread d programs; posted = λ queue. [] }
 
--- what an actor knows: actor 0 is the adapter, and the others are threads
-abbrev pub Knows : ℕ → Type 0
-Knows zero = AdapterRule
-Knows (suc t) = Thread
-
-abbrev pub part : (actor : ℕ) → Actors → Knows actor
-part zero w = w.adapter
-part (suc t) w = w.threads (suc t)
-
 pub record MayAdapter (d : Lines) (s : AdapterRule) (x : Marked Mark) : Type 0 where
   pub mark_is : x.mark ≡ adapter_mark d s
   pub goes_on : MayAdapt d s x.entry
-
--- the rule of an actor over its own operations
-abbrev pub May : Lines → (actor : ℕ) → Knows actor → Marked Mark → Type 0
-May d zero s x = MayAdapter d s x
-May d (suc t) s x = MayThread d s (suc t) x
-
-abbrev pub next : Lines → (actor : ℕ) → Knows actor → Marked Mark → Knows actor
-next d zero s x = after_adapt d s x.entry
-next d (suc t) s x = after_thread d s x
 
 -- the id that stands in the queue for the request of this number, counted from 1
 abbrev pub id_of : Item → ℕ
@@ -90,7 +72,3 @@ after_by d w (suc t) x = record {
 
 abbrev pub after : Lines → Actors → Marked Mark → Actors
 after d w x = after_by d w x.entry.actor x
-
--- an operation keeps its actor's rule
-abbrev pub MayAny : Lines → Actors → Marked Mark → Type 0
-MayAny d w x = May d x.entry.actor (part x.entry.actor w) x

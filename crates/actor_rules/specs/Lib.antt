@@ -5,6 +5,7 @@ pub mod Posting
 pub mod Polling
 pub mod Calls
 pub mod Actors
+pub mod Roles
 pub mod Dues
 pub mod Ready
 pub mod Run

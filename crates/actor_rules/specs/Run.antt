@@ -1,5 +1,5 @@
 -- A run of all actors over the words, and the history that it spells.
-use Rattle.std.specs.Prelude.{ℕ, suc, ◌==◌, List, filter}
+use Rattle.std.specs.Prelude.{ℕ, suc, ◌==◌, ◌++◌, List, [], filter, fold}
 use Rattle.bus_core.specs.Follow.{Follows}
 use Rattle.bus_core.specs.Mark.{Marked, entries}
 use Rattle.bus_core.specs.Trace.{IsConsistent}
@@ -13,7 +13,8 @@ use Rattle.verbs_rules.specs.Legal.{IsLegal}
 use Rattle.actor_map.specs.Start.{start_words}
 use Rattle.object_places.specs.Objects.{Mark}
 use Rattle.actor_rules.specs.Thread.{program_of}
-use Rattle.actor_rules.specs.Actors.{fresh_actors, part, May, next, after, says}
+use Rattle.actor_rules.specs.Actors.{Actors, fresh_actors, after, says}
+use Rattle.actor_rules.specs.Roles.{Role, turn_role, alone_role, known_as, MayAs, next_as}
 
 -- the operations of one actor, in order
 abbrev pub own : ℕ → List (Marked Mark) → List (Marked Mark)
@@ -23,10 +24,34 @@ own actor trace = filter (λ x. x.entry.actor == actor) trace
 abbrev pub history : Lines → List (List Call) → List (Marked Mark) → List Entry
 history d programs trace = spelled (after d) (says d) (fresh_actors d programs) trace
 
--- A consistent trace from the words with which a run begins, in which each actor's own operations keep its rule.
-pub record IsRun (d : Lines) (programs : List (List Call)) (trace : List (Marked Mark)) : Type 0 where
-  pub consistent : IsConsistent (start_words d 1) (entries trace)
-  pub keeps : (actor : ℕ) → Follows (May d actor) (next d actor) (part actor (fresh_actors d programs)) (own actor trace)
+-- The phases of a run: it opens, the actors take turns, and it closes.
+pub record Phases : Type 0 where
+  pub opening : List (Marked Mark)
+  pub turns : List (Marked Mark)
+  pub closing : List (Marked Mark)
+
+-- all operations, in order
+abbrev pub whole : Phases → List (Marked Mark)
+whole p = p.opening ++ (p.turns ++ p.closing)
+
+-- a run of turns alone: it opens with all declared objects made, and ends without a close
+abbrev pub turns_alone : List (Marked Mark) → Phases
+turns_alone trace = record { opening = []; turns = trace; closing = [] }
+
+-- each actor's own operations of a phase keep the rule of its role, from what the actors know before it
+abbrev pub KeepRoles : Lines → (ℕ → Role) → Actors → List (Marked Mark) → Type 0
+KeepRoles d role w trace = (actor : ℕ) → Follows (MayAs d (role actor)) (next_as d (role actor)) (known_as (role actor) w) (own actor trace)
+
+-- what all actors know after these operations
+abbrev pub actors_after : Lines → Actors → List (Marked Mark) → Actors
+actors_after d w trace = fold (after d) w trace
+
+-- A consistent trace from the words with which a run begins, in which each actor keeps the rule of its role in each phase.
+pub record IsRun (d : Lines) (programs : List (List Call)) (phases : Phases) : Type 0 where
+  pub consistent : IsConsistent (start_words d 1) (entries (whole phases))
+  pub opens : KeepRoles d alone_role (fresh_actors d programs) phases.opening
+  pub turns : KeepRoles d turn_role (actors_after d (fresh_actors d programs) phases.opening) phases.turns
+  pub closes : KeepRoles d alone_role (actors_after d (fresh_actors d programs) (phases.opening ++ phases.turns)) phases.closing
 
 -- The history is legal from the state in which all declared objects live, and each thread's entries are those of its calls, each once and in order.
 pub record IsHistory (d : Lines) (programs : List (List Call)) (entries : List Entry) : Type 0 where

@@ -1,21 +1,20 @@
 //! The law of the whole.
 ghost use Rattle.std.specs.Prelude.{ℕ, List};
-ghost use Rattle.bus_core.specs.Mark.{Marked};
 ghost use Rattle.verbs_rules.specs.Within.{Bounds};
 ghost use Rattle.verbs_types.specs.declared.call.Call.{Call};
 ghost use Rattle.verbs_types.specs.declared.declaration.Lines.{Lines};
-ghost use Rattle.object_places.specs.Objects.{Mark};
 ghost use Rattle.actor_rules.specs.Ready.{AreReady};
-ghost use Rattle.actor_rules.specs.Run.{IsRun, IsHistory, history};
+ghost use Rattle.actor_rules.specs.Run.{Phases, IsRun, IsHistory, whole, history};
 
 use object_places::laws as places;
 
-/// In every consistent trace from the words with which a run begins, in which the adapter and each thread keep their
-/// rules, each over its own operations and in whatever order they take turns, what the marked operations say is a legal
-/// history of verbs queues, and each thread's entries are those of its calls, each once and in order.
+/// In every consistent trace from the words with which a run begins, in which each actor keeps the rule of its role in
+/// each phase, over its own operations and in whatever order the actors take turns, what the marked operations say is a
+/// legal history of verbs queues, and each thread's entries are those of its calls, each once and in order. In the
+/// opening and in the closing the adapter is alone; in the turns between, each thread moves too.
 pub fn woven()
-    ensures { (d : Lines) (programs : List (List Call)) (bounds : Bounds) (trace : List (Marked Mark)) →
-        AreReady d programs bounds → IsRun d programs trace → IsHistory d programs (history d programs trace) }
+    ensures { (d : Lines) (programs : List (List Call)) (bounds : Bounds) (phases : Phases) →
+        AreReady d programs bounds → IsRun d programs phases → IsHistory d programs (history d programs (whole phases)) }
 {
     places::places();
     places::apart();

@@ -26,7 +26,8 @@ use Rattle.provider_post.specs.Rule.{entry_told}
 use Rattle.device_engine.specs.Event.{AdapterEvent, publish_said}
 use Rattle.device_engine.specs.Rule.{MayAt, said_at}
 use Rattle.device_engine.specs.State.{AdapterAt, AdapterRule, Looking, Recording, Reading, Publishing, Ending}
-use Rattle.actor_rules.specs.Actors.{Actors, May, MayAny, part, adapter_entry, by, what_of}
+use Rattle.actor_rules.specs.Actors.{Actors, adapter_entry, by, what_of}
+use Rattle.actor_rules.specs.Roles.{May, MayAny, part}
 use Rattle.actor_rules.specs.Calls.{MayCall, call_says}
 use Rattle.actor_rules.specs.Posting.{MayPost, post_now, post_says}
 use Rattle.actor_rules.specs.Thread.{Thread, queue_place}

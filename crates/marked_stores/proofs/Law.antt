@@ -13,7 +13,8 @@ use Rattle.verbs_rules.specs.Running.{Running, after_turn}
 use Rattle.actor_map.specs.Start.{start_words}
 use Rattle.object_places.specs.Apart.{ArePlaced, AreApart, AreAtStart}
 use Rattle.object_places.specs.Objects.{Mark}
-use Rattle.actor_rules.specs.Actors.{Actors, MayAny, fresh_actors, after, says}
+use Rattle.actor_rules.specs.Actors.{Actors, fresh_actors, after, says}
+use Rattle.actor_rules.specs.Roles.{MayAny}
 use Rattle.actor_rules.specs.Dues.{dues_at}
 use Rattle.actor_rules.specs.Ready.{AreReady, first_dues}
 use Rattle.actor_rules.specs.Run.{IsRun}

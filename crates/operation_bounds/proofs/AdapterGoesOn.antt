@@ -10,7 +10,7 @@ use Rattle.object_places.specs.Objects.{Mark}
 use Rattle.device_engine.specs.Event.{AdapterEvent, Fetched, Published}
 use Rattle.device_engine.specs.Rule.{adapter_says}
 use Rattle.device_engine.specs.State.{AdapterRule, Publishing, put_number, fresh_adapter}
-use Rattle.actor_rules.specs.Actors.{next}
+use Rattle.actor_rules.specs.Roles.{next}
 use Rattle.actor_rules.proofs.Threading.{put_here, put_all}
 use Rattle.operation_bounds.specs.Adapter.{AdapterGoesOn, adapter_by, adapter_operations}
 use Rattle.operation_bounds.proofs.AdapterMoves.{AdapterStands, Begins, Moved, Idle, Fetch, Goes, Over, IsIdle, IsOfPair, publish_left, publish_few, adapter_step, adapter_first}

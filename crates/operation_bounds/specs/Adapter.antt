@@ -7,7 +7,7 @@ use Rattle.object_places.specs.Objects.{Mark}
 use Rattle.device_engine.specs.State.{AdapterRule, fresh_adapter}
 use Rattle.device_engine.specs.Event.{Fetched, Published}
 use Rattle.device_engine.specs.Rule.{adapter_says}
-use Rattle.actor_rules.specs.Actors.{next}
+use Rattle.actor_rules.specs.Roles.{next}
 use Rattle.operation_bounds.specs.Stretch.{IsStretch}
 
 -- how many operations the adapter may make between two entries of one request

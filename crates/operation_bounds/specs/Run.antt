@@ -5,7 +5,8 @@ use Rattle.bus_core.specs.Mark.{Marked}
 use Rattle.verbs_types.specs.declared.call.Call.{Call}
 use Rattle.verbs_types.specs.declared.declaration.Lines.{Lines}
 use Rattle.object_places.specs.Objects.{Mark}
-use Rattle.actor_rules.specs.Actors.{May, next, part, fresh_actors}
+use Rattle.actor_rules.specs.Actors.{fresh_actors}
+use Rattle.actor_rules.specs.Roles.{May, next, part}
 use Rattle.actor_rules.specs.Run.{own}
 use Rattle.operation_bounds.specs.Calls.{CallsEnd}
 use Rattle.operation_bounds.specs.Drains.{DrainsLook, DrainsTake}

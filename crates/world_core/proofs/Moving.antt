@@ -13,7 +13,8 @@ use Rattle.verbs_types.specs.declared.declaration.Lines.{Lines}
 use Rattle.verbs_types.specs.declared.entry.Entry.{Entry}
 use Rattle.actor_map.specs.Notes.{note_of}
 use Rattle.object_places.specs.Objects.{Mark}
-use Rattle.actor_rules.specs.Actors.{Actors, fresh_actors, MayAny, after, says}
+use Rattle.actor_rules.specs.Actors.{Actors, fresh_actors, after, says}
+use Rattle.actor_rules.specs.Roles.{MayAny}
 use Rattle.actor_rules.specs.Run.{history}
 use Rattle.scenario_text.specs.declared.scenario.ScenarioParts.{ScenarioParts}
 use Rattle.noted_history.specs.declared.log.TurnResult.{TurnResult as MadeBy}

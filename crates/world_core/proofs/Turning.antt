@@ -22,7 +22,8 @@ use Rattle.device_engine.specs.Event.{AdapterEvent, Fetched, Published, notes}
 use Rattle.device_engine.specs.Rule.{adapter_mark, MayAdapt, after_adapt, adapter_says}
 use Rattle.device_engine.specs.State.{AdapterRule}
 use Rattle.device_engine.specs.View.{ScanView, rule_of, seen_of}
-use Rattle.actor_rules.specs.Actors.{Actors, May, MayAny, MayAdapter, Knows, part, after, after_by, says, what_of, by, adapter_entry}
+use Rattle.actor_rules.specs.Actors.{Actors, MayAdapter, after, after_by, says, what_of, by, adapter_entry}
+use Rattle.actor_rules.specs.Roles.{May, MayAny, Knows, part}
 use Rattle.actor_rules.specs.Calls.{MayThread, after_thread, thread_says}
 use Rattle.actor_rules.specs.Thread.{Thread}
 use Rattle.actor_rules.proofs.Threading.{put_here, put_there}

@@ -10,7 +10,8 @@ use Rattle.actor_map.specs.Start.{starts}
 use Rattle.object_places.specs.Objects.{Mark}
 use Rattle.device_engine.specs.Counts.{CountsBelow}
 use Rattle.device_engine.specs.View.{ScanView, rule_of}
-use Rattle.actor_rules.specs.Actors.{Actors, fresh_actors, MayAny, after}
+use Rattle.actor_rules.specs.Actors.{Actors, fresh_actors, after}
+use Rattle.actor_rules.specs.Roles.{MayAny}
 use Rattle.actor_rules.specs.Run.{history}
 use Rattle.scenario_text.specs.declared.scenario.ScenarioParts.{ScenarioParts}
 use Rattle.scenario_text.specs.Limits.{turn_count}
