@@ -17,11 +17,11 @@ use Rattle.actor_rules.specs.Actors.{Actors, fresh_actors, after, says}
 use Rattle.actor_rules.specs.Roles.{MayAny}
 use Rattle.actor_rules.specs.Dues.{dues_at}
 use Rattle.actor_rules.specs.Ready.{AreReady, first_dues}
-use Rattle.actor_rules.specs.Run.{IsRun}
+use Rattle.actor_rules.specs.Run.{Phases, IsRun, whole}
 use Rattle.actor_rules.proofs.Holding.{Holds, Goes, IsMapped}
 use Rattle.actor_rules.proofs.Law.{step}
 use Rattle.actor_rules.proofs.StartHolds.{CanAct, start_holds}
-use Rattle.actor_rules.proofs.Woven.{all_keep}
+use Rattle.actor_rules.proofs.Phases.{run_keeps}
 use Rattle.marked_stores.specs.Stores.{SaysEntry, SayEntries}
 use Rattle.marked_stores.proofs.Actors.{told}
 
@@ -43,10 +43,11 @@ follows_at allowed next s [] x later h = h.0
 follows_at allowed next s (e ∷ before) x later h = follows_at allowed next (next s e) before x later h.1
 
 -- what a run writes of news it says
-pub all_are_told : ArePlaced → AreApart → AreAtStart → (d : Lines) (programs : List (List Call)) (bounds : Bounds) (trace : List (Marked Mark)) → AreReady d programs bounds → IsRun d programs trace → SayEntries d programs trace
-all_are_told placed apart starts d programs bounds trace ready run before x later is =
+pub all_are_told : ArePlaced → AreApart → AreAtStart → (d : Lines) (programs : List (List Call)) (bounds : Bounds) (phases : Phases) → AreReady d programs bounds → IsRun d programs phases → SayEntries d programs (whole phases)
+all_are_told placed apart starts d programs bounds phases ready run before x later is =
+    let trace : List (Marked Mark) = whole phases in
     let map_ok : IsMapped d = record { declared = ready.declared; placed = placed; apart = apart } in
     let begins : CanAct d programs bounds = record { map = map_ok; starts = starts; ready = ready } in
     let first : Running = record { verbs = start d; owed = dues_at (first_dues programs) } in
-    let all = all_told d programs bounds map_ok trace (start_words d 1) (fresh_actors d programs) first (start_holds d programs bounds begins) run.consistent (all_keep d trace (fresh_actors d programs) run.keeps) in
+    let all = all_told d programs bounds map_ok trace (start_words d 1) (fresh_actors d programs) first (start_holds d programs bounds begins) run.consistent (run_keeps d programs phases run) in
     follows_at (SaysEntry d) (after d) (fresh_actors d programs) before x later (subst (Follows (SaysEntry d) (after d) (fresh_actors d programs)) is all)

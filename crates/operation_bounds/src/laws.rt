@@ -6,7 +6,7 @@ ghost use Rattle.verbs_types.specs.declared.call.Call.{Call};
 ghost use Rattle.verbs_types.specs.declared.declaration.Lines.{Lines};
 ghost use Rattle.object_places.specs.Objects.{Mark};
 ghost use Rattle.actor_rules.specs.Ready.{AreReady};
-ghost use Rattle.actor_rules.specs.Run.{IsRun};
+ghost use Rattle.actor_rules.specs.Run.{Phases, IsRun, whole};
 ghost use Rattle.operation_bounds.specs.Adapter.{AdapterGoesOn};
 ghost use Rattle.operation_bounds.specs.Run.{KeepsRule, AreBounded, IsBoundedRun};
 
@@ -31,8 +31,8 @@ pub fn adapter_goes_on()
 
 /// In every run all threads and the adapter keep these bounds.
 pub fn run_is_bounded()
-    ensures { (d : Lines) (programs : List (List Call)) (bounds : Bounds) (trace : List (Marked Mark)) →
-        AreReady d programs bounds → IsRun d programs trace → IsBoundedRun d programs trace }
+    ensures { (d : Lines) (programs : List (List Call)) (bounds : Bounds) (phases : Phases) →
+        AreReady d programs bounds → IsRun d programs phases → IsBoundedRun d programs (whole phases) }
 {
     calls_end();
     adapter_goes_on();

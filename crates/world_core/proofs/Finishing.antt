@@ -12,7 +12,9 @@ use Rattle.verbs_rules.specs.State.{Verbs}
 use Rattle.object_places.specs.Objects.{Mark}
 use Rattle.actor_rules.specs.Actors.{fresh_actors}
 use Rattle.actor_rules.specs.Ready.{AreReady}
-use Rattle.actor_rules.specs.Run.{IsRun, IsHistory, history}
+use Rattle.actor_map.specs.Start.{start_words}
+use Rattle.actor_rules.specs.Run.{Phases, IsRun, IsHistory, whole, turns_alone, history}
+use Rattle.actor_rules.proofs.Phases.{whole_is}
 use Rattle.actor_rules.proofs.Woven.{own_keep}
 use Rattle.operation_bounds.specs.Run.{IsBoundedRun}
 use Rattle.marked_stores.specs.Stores.{SayEntries}
@@ -28,7 +30,7 @@ use Rattle.world_core.specs.Run.{RunView}
 
 -- a law of every run of programs that are ready
 abbrev pub LawOf : (Lines → List (List Call) → List (Marked Mark) → Type 0) → Type 0
-LawOf Claim = (d : Lines) (programs : List (List Call)) (bounds : Bounds) (trace : List (Marked Mark)) → AreReady d programs bounds → IsRun d programs trace → Claim d programs trace
+LawOf Claim = (d : Lines) (programs : List (List Call)) (bounds : Bounds) (phases : Phases) → AreReady d programs bounds → IsRun d programs phases → Claim d programs (whole phases)
 
 abbrev pub HasLegalHistory : Lines → List (List Call) → List (Marked Mark) → Type 0
 HasLegalHistory d programs trace = IsHistory d programs (history d programs trace)
@@ -37,16 +39,18 @@ abbrev pub ReadyLaw : Type 0
 ReadyLaw = (s : ScenarioParts) → CanRun s → IsReady s
 
 module _ (s : ScenarioParts) (v : RunView) (h : Holds s v) (consistent : IsConsistent (slice_index v.bus.start) v.bus.trace) where
-  pub run_is : IsRun s.lines s.programs h.trace
+  pub run_is : IsRun s.lines s.programs (turns_alone h.trace)
   run_is = record {
-    consistent = subst (λ (ws : List ℕ). IsConsistent (slice_index ws) (entries h.trace)) h.bus.start
-        (subst (λ (es : List BusEntry). IsConsistent (slice_index v.bus.start) es) (sym h.bus.operations) consistent);
-    keeps = own_keep s.lines h.trace (fresh_actors s.lines s.programs) h.made.keeps;
+    consistent = subst (λ (ops : List (Marked Mark)). IsConsistent (start_words s.lines 1) (entries ops)) (sym (whole_is h.trace)) (subst (λ (ws : List ℕ). IsConsistent (slice_index ws) (entries h.trace)) h.bus.start
+        (subst (λ (es : List BusEntry). IsConsistent (slice_index v.bus.start) es) (sym h.bus.operations) consistent));
+    opens = λ actor. tt;
+    turns = own_keep s.lines h.trace (fresh_actors s.lines s.programs) h.made.keeps;
+    closes = λ actor. tt;
   }
 
   -- what a law says of this run
   pub by_law : (Claim : Lines → List (List Call) → List (Marked Mark) → Type 0) → LawOf Claim → ReadyLaw → CanRun s → Claim s.lines s.programs h.trace
-  by_law Claim law ready can = law s.lines s.programs (bounds_of s.lines s.programs) h.trace (ready s can).law run_is
+  by_law Claim law ready can = subst (Claim s.lines s.programs) (whole_is h.trace) (law s.lines s.programs (bounds_of s.lines s.programs) (turns_alone h.trace) (ready s can).law run_is)
 
   module _ (legal : IsHistory s.lines s.programs (history s.lines s.programs h.trace)) where
     pub told : (first : Verbs) (programs : List (List Call)) → first ≡ start s.lines → programs ≡ s.programs → HasNotes first programs v.turns (history s.lines s.programs h.trace)

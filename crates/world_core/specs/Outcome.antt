@@ -5,7 +5,7 @@ use Rattle.verbs_types.specs.declared.declaration.Lines.{Lines}
 use Rattle.object_places.specs.Objects.{Mark}
 use Rattle.scenario_text.specs.declared.scenario.ScenarioParts.{ScenarioParts}
 use Rattle.actor_rules.specs.Actors.{Actors, fresh_actors, after, says}
-use Rattle.actor_rules.specs.Run.{IsRun, IsHistory, history}
+use Rattle.actor_rules.specs.Run.{IsRun, IsHistory, turns_alone, history}
 use Rattle.operation_bounds.specs.Run.{IsBoundedRun}
 use Rattle.marked_stores.specs.Stores.{SayEntries}
 use Rattle.world_core.specs.declared.outcome.Outcome.{Outcome}
@@ -41,8 +41,8 @@ pub record IsOutcome (s : ScenarioParts) (turns : List ℕ) (o : Outcome) : Type
   -- the operations, each with what it is about
   pub trace : List (Marked Mark)
   pub operations : entries trace ≡ o.trace.items
-  -- each tells the word that it found, and each actor keeps its rule
-  pub run : IsRun s.lines s.programs trace
+  -- each tells the word that it found, and each actor keeps the rule of its role
+  pub run : IsRun s.lines s.programs (turns_alone trace)
   pub turned : AreTurns s.lines (fresh_actors s.lines s.programs) turns trace
   -- what the marked ones say, in order
   pub history_is : o.history ≡ history s.lines s.programs trace
