@@ -8,7 +8,6 @@ pub record CanServe {Bus : Type 0} (port : Port Bus) : Type 0 where
   pub room : HasRoom port.room
   pub slots : 17408 ≤ port.words
 
-
 -- a question of these first words has a word of this number, in its entry or in one of at most four blocks
 pub record HasWord (words : List ℕ) (p : ℕ) : Type 0 where
   pub entry : 8 ≤ p → 8 ≤ length words
