@@ -1,5 +1,6 @@
 -- The note of an entry, and when a note fits an entry in a state.
-use Rattle.std.specs.Prelude.{ℕ, ◌≡◌, ◌+◌, ◌-◌, ◌*◌, ◌<◌, ◌≤◌, ◌==◌, IsTrue, MatchBool, length}
+use Rattle.std.specs.Prelude.{ℕ, ◌≡◌, ◌+◌, ◌-◌, ◌*◌, ◌<◌, ◌≤◌, ◌==◌, IsTrue, MatchBool, List, length, map}
+use Rattle.bus_core.specs.Follow.{Follows}
 use Rattle.bus_core.specs.declared.turn.Note.{Note}
 use Rattle.verbs_types.specs.declared.completion.Queue.{Queue}
 use Rattle.verbs_types.specs.declared.completion.Queue.TheVariants.{Send, Recv, Shared}
@@ -8,6 +9,7 @@ use Rattle.verbs_types.specs.declared.entry.What.{What}
 use Rattle.verbs_types.specs.declared.entry.What.TheVariants.{Post, PostFull, Poll, Retire, Ack, Fetch, Publish}
 use Rattle.verbs_rules.specs.Rules.{objects_live}
 use Rattle.verbs_rules.specs.State.{Verbs}
+use Rattle.verbs_rules.specs.Step.{after_entry}
 use Rattle.verbs_rules.specs.OfOne.{WorkQueue, CompletionQueue, queue_in, completions_in}
 use Rattle.actor_map.specs.declared.note.TheConstants.{POST, POST_FULL, POLL, RETIRE, ACK, FETCH, PUBLISH}
 
@@ -62,6 +64,27 @@ Serves v (Ack cq index) seen = Unit {0}
 Serves v (Fetch queue number) seen = ShowsPosted (queue_in v queue) number seen
 Serves v (Publish cq completion) seen = LeavesPlace (completions_in v cq) seen
 Serves v _ seen = ⊥
+
+-- an entry that was told, and the count of another actor that its maker saw
+pub record Told : Type 0 where
+  pub entry : Entry
+  pub seen : ℕ
+
+abbrev pub with_seen : ℕ → Entry → Told
+with_seen seen e = record { entry = e; seen = seen }
+
+abbrev pub entries_of : List Told → List Entry
+entries_of told = map (λ (t : Told). t.entry) told
+
+abbrev pub note_told : Told → Note
+note_told t = note_of t.entry.what t.seen
+
+abbrev pub IsServed : Verbs → Told → Type 0
+IsServed v t = Serves v t.entry.what t.seen
+
+-- what was seen for each of these serves for it, from this state on
+abbrev pub AllServe : Verbs → List Told → Type 0
+AllServe v told = Follows IsServed (λ (u : Verbs) (t : Told). after_entry u t.entry) v told
 
 -- The note is one of the entry, whose objects live, and what it says to have seen serves.
 pub record FitsWith (v : Verbs) (note : Note) (e : Entry) (seen : ℕ) : Type 0 where

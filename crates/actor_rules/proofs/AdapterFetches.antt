@@ -19,6 +19,7 @@ use Rattle.verbs_rules.specs.Answered.{Due}
 use Rattle.verbs_rules.specs.Family.{put}
 use Rattle.verbs_rules.specs.Rows.{nop_completion}
 use Rattle.verbs_rules.specs.Same.{same_queue}
+use Rattle.actor_map.specs.Notes.{Serves}
 use Rattle.verbs_rules.specs.State.{Verbs}
 use Rattle.verbs_rules.specs.OfOne.{WorkQueue, queue_in}
 use Rattle.verbs_rules.specs.Step.{after}
@@ -96,6 +97,10 @@ module _ (d : Lines) (programs : List (List Call)) (total : Bounds) (map : IsMap
 
     pub goes : within.Goes (length d.qps) total v 0 (Fetch (Send qp) number) dues
     goes = fetch_goes (length d.qps) total v dues qp item st.bare.sound.bounded alive sends reads.visits.idle posted.there more
+
+    -- the record showed it as posted
+    pub serves : Serves v (Fetch (Send qp) number) number
+    serves = record { least = omega (arith, more); enough = omega arith }
 
     nop : item.op ≡ Nop
     nop = nop_at u.posted u.taken item (st.bare.sound.bounded.within.queues qp).nops posted.there

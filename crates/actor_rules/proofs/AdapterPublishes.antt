@@ -185,6 +185,7 @@ module _ (d : Lines) (programs : List (List Call)) (total : Bounds) (map : IsMap
             unpolled = subst (λ (cs : List Cqe). Match (IsCompletion st.lists) cs (us ++ u ∷ [])) (sym ((reads_as_history (size (ring_of place)) q).published index stands.from c may from_low))
                 (match_push (IsCompletion st.lists) (since q stands.from) us c u stands.unpolled o.spells);
             reads = stands.reads;
+            shows = record { least = omega (arith, stands.shows.least, long); enough = stands.shows.enough; reading = stands.shows.reading };
             poll = poll_front d cq (poll_side programs w cq).retirers st.lists.queues ((view programs w).given cq) us (u ∷ []) (poll_side programs w cq).state stands.poll;
             retirers = stands.retirers;
             asked = stands.asked;

@@ -109,6 +109,17 @@ abbrev pub ReadsNext : Consumer → Type 0
 ReadsNext (Waiting acked next) = Unit {0}
 ReadsNext (Reading acked next index last words) = index ≡ next
 
+-- an entry that is read was seen as published
+abbrev pub IsSeen : Consumer → ℕ → Type 0
+IsSeen (Waiting acked next) seen = Unit {0}
+IsSeen (Reading acked next index last words) seen = index < seen
+
+-- What a poll has seen as published was published, and all that it holds was seen.
+pub record Shows (host : Consumer) (seen held_now produced_now : ℕ) : Type 0 where
+  pub least : seen ≤ produced_now
+  pub enough : 0 < held_now → next_index host ≤ seen
+  pub reading : IsSeen host seen
+
 -- the counts of the abstract queue are those of the words
 pub record Counts (acked_is produced_is size_is : ℕ) (overrun_is : Bool) (acked_words produced_words size_words : ℕ) : Type 0 where
   pub acked : acked_is ≡ acked_words
@@ -125,6 +136,7 @@ pub record CompletionsIn (d : Lines) (cq : ℕ) (words_of : Queue → counted.Qu
   pub low : q.acked ≤ from
   pub unpolled : Match (IsCompletionOf words_of) (since q from) u.unpolled
   pub reads : ReadsNext p.host
+  pub shows : Shows p.host p.seen (held p.state) (produced q)
   pub poll : PollIn d cq words_of p.retirers given u.unpolled p.state
   pub retirers : length p.retirers ≡ length (completing d cq)
   pub asked : (place : ℕ) → AskedFor p.state place (retirer_in p.retirers place).asked

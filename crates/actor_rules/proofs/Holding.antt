@@ -8,6 +8,7 @@ use Rattle.verbs_types.specs.declared.declaration.Lines.{Lines}
 use Rattle.verbs_types.specs.declared.declaration.TheConstants.{FIRST_QP}
 use Rattle.verbs_types.specs.declared.entry.Entry.{Entry}
 use Rattle.verbs_rules.specs.Answered.{Due, MayAnswer}
+use Rattle.actor_map.specs.Notes.{Told, IsServed, with_seen}
 use Rattle.verbs_types.specs.Lines.{is_among, is_declared}
 use Rattle.verbs_rules.specs.Start.{start_pair}
 use Rattle.verbs_rules.specs.State.{Device, Verbs}
@@ -18,7 +19,7 @@ use Rattle.verbs_types.specs.declared.completion.Queue.TheVariants.{Send}
 use Rattle.object_places.specs.Objects.{Mark, Lives, Completions, Sends}
 use Rattle.object_places.specs.Apart.{ArePlaced, AreApart}
 use Rattle.actor_rules.specs.Thread.{Thread}
-use Rattle.actor_rules.specs.Actors.{Actors, after, says}
+use Rattle.actor_rules.specs.Actors.{Actors, after, says, sees_of}
 use Rattle.actor_rules.specs.Roles.{MayAny}
 use Rattle.actor_rules.specs.Dues.{dues_at}
 use Rattle.verbs_rules.specs.Within.{Bounds, InBounds}
@@ -76,14 +77,16 @@ abbrev pub IsDue : Running → ℕ → Entry → Type 0
 IsDue r zero e = Unit {0}
 IsDue r (suc t) e = MayAnswer (r.owed (suc t)) e.what
 
-pub record MayTurn (r : Running) (e : Entry) : Type 0 where
-  pub legal : MayStep r.verbs e
-  pub due : IsDue r e.actor e
+-- and what its maker saw serves for it
+pub record MayTurn (r : Running) (t : Told) : Type 0 where
+  pub legal : MayStep r.verbs t.entry
+  pub due : IsDue r t.entry.actor t.entry
+  pub serves : IsServed r.verbs t
 
--- what an operation keeps that says this
-abbrev pub Goes : Lines → List (List Call) → Bounds → Memory → Actors → Running → Option Entry → Type 0
-Goes d programs total m w r None = Holds d programs total m w r
-Goes d programs total m w r (Some e) = MayTurn r e × Holds d programs total m w (after_turn r e)
+-- what an operation keeps that has seen so many of another actor's, and says this
+abbrev pub Goes : Lines → List (List Call) → Bounds → Memory → Actors → Running → ℕ → Option Entry → Type 0
+Goes d programs total m w r seen None = Holds d programs total m w r
+Goes d programs total m w r seen (Some e) = MayTurn r (with_seen seen e) × Holds d programs total m w (after_turn r e)
 
 -- objects lie where they should, and apart
 pub record IsMapped (d : Lines) : Type 0 where
@@ -93,4 +96,4 @@ pub record IsMapped (d : Lines) : Type 0 where
 
 -- the step that a law over all operations is made of
 abbrev pub Step : Lines → List (List Call) → Bounds → Type 0
-Step d programs total = (m : Memory) (w : Actors) (r : Running) (x : Marked Mark) → Holds d programs total m w r → Tells m x.entry → MayAny d w x → Goes d programs total (after_entry m x.entry) (after d w x) r (says d w x)
+Step d programs total = (m : Memory) (w : Actors) (r : Running) (x : Marked Mark) → Holds d programs total m w r → Tells m x.entry → MayAny d w x → Goes d programs total (after_entry m x.entry) (after d w x) r (sees_of d w x.entry.actor x) (says d w x)

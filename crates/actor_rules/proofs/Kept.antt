@@ -17,7 +17,7 @@ use Rattle.provider_poll.specs.declared.state.PollState.TheVariants as states
 use Rattle.provider_poll.specs.Rule.{PollRule}
 use Rattle.device_engine.specs.State.{AdapterRule, AdapterAt, Looking, Recording, Reading, Publishing, Ending, send_cq}
 use Rattle.actor_rules.proofs.Adapter.{AdapterStandsAt}
-use Rattle.actor_rules.proofs.Completions.{Counts, CompletionsStand, IsCompletion, PollStands, IsLookedUp}
+use Rattle.actor_rules.proofs.Completions.{Counts, Shows, held, CompletionsStand, IsCompletion, PollStands, IsLookedUp}
 use Rattle.actor_rules.proofs.Growing.{Grows, completion_kept}
 use Rattle.actor_rules.proofs.Matching.{Match, match_weaken}
 use Rattle.actor_rules.proofs.Objects.{Lists}
@@ -46,6 +46,7 @@ module _ (d : Lines) (l l' : Lists) (grows : (qp : ℕ) → Grows (l.queues (Sen
     low = coe 1 0 (i. (list i).acked ≤ h.from) h.low;
     unpolled = coe 1 0 (i. Match (IsCompletion l') (since (list i) h.from) (same i).unpolled) (match_weaken (IsCompletion l) (IsCompletion l') completion_same _ _ h.unpolled);
     reads = h.reads;
+    shows = coe 1 0 (i. Shows p.host p.seen (held p.state) (produced (list i))) h.shows;
     poll = coe 1 0 (i. PollStands d cq l' p given (same i).unpolled p.state) (poll_kept cq p given (v.unpolled cq) p.state h.poll);
     retirers = h.retirers;
     asked = h.asked;

@@ -41,6 +41,7 @@ pub mod PollMoves
 pub mod PollTells
 pub mod PollReady
 pub mod PollLooks
+pub mod PollShows
 pub mod PollLoads
 pub mod PollServed
 pub mod PollNamed

@@ -106,13 +106,15 @@ module _ (d : Lines) (m : Memory) (around : View) (cq most : ℕ) (l : Lists) (v
         let s = now.stands in
         let low : q.acked ≤ index = omega (arith, s.low, from_is) in
         let unpolled_is : since q' s.from ≡ since q s.from = (reads_as_history (size (ring_of (completions_of d cq))) q).acked index s.from goes.0 (omega (arith, from_is)) in
+        let same_count : produced q ≡ produced q' = omega (arith, length-drop (index - q.acked) q.completions, low, within) in
         coe 1 0 (i. CompletionsIn d cq l.queues q' now_is [] (completions_now i) (ends_in v')) (record {
-          counts = record { acked = sym oldest_is; produced = s.counts.produced ∙ (let same : produced q ≡ produced q' = omega (arith, length-drop (index - q.acked) q.completions, low, within) in same); size = s.counts.size; runs = s.counts.runs };
+          counts = record { acked = sym oldest_is; produced = s.counts.produced ∙ same_count; size = s.counts.size; runs = s.counts.runs };
           from = s.from;
           from_is = s.from_is;
           low = omega (arith, from_is);
           unpolled = subst (λ (cs : List Cqe). Match (IsCompletion l) cs us) (sym unpolled_is) s.unpolled;
           reads = tt;
+          shows = record { least = omega (arith, s.shows.least, same_count); enough = λ holds. absurd (omega (arith, holds)); reading = tt };
           poll = tt;
           retirers = s.retirers;
           asked = λ place. idle_acking taken empty place (retirer_in rs place).asked (s.asked place);

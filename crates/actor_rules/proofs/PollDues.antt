@@ -14,6 +14,7 @@ use Rattle.verbs_types.specs.declared.declaration.Lines.{Lines}
 use Rattle.verbs_types.specs.declared.entry.What.{What}
 use Rattle.verbs_types.specs.declared.request.Item.{Item}
 use Rattle.verbs_types.specs.declared.request.Item.TheVariants.{Request as TheRequest, Receive as TheReceive}
+use Rattle.actor_map.specs.Notes.{Serves}
 use Rattle.verbs_rules.specs.Answered.{Due, Polling, Draining, Answers, MayAnswer, left_by, after_answer, due_by}
 use Rattle.verbs_rules.specs.Family.{put}
 use Rattle.verbs_rules.specs.Same.{same_queue}
@@ -195,7 +196,7 @@ module _ (d : Lines) (programs : List (List Call)) (total : Bounds) (m m' : Memo
     }
 
     -- nothing is said, and nothing else is owed
-    pub silent_goes : IsPollFor most given p.state → owed_at d cq job.due job.more p.state ≡ owed_at d cq job.due job.more (th.polls cq).state → Moves d (view programs w) cq m' h.stands.lists r.verbs p given r.verbs → Goes d programs total m' (poll_goes_on w t cq p given calls) r None
+    pub silent_goes : IsPollFor most given p.state → owed_at d cq job.due job.more p.state ≡ owed_at d cq job.due job.more (th.polls cq).state → Moves d (view programs w) cq m' h.stands.lists r.verbs p given r.verbs → Goes d programs total m' (poll_goes_on w t cq p given calls) r p.seen None
     silent_goes poll same move = record {
       dues = h.dues;
       owed = h.owed;
@@ -219,15 +220,15 @@ module _ (d : Lines) (programs : List (List Call)) (total : Bounds) (m m' : Memo
       by_queue k (inr apart) = ap (λ (x : PollRule). x.state) (put_there th.polls cq p k apart) ∙ polls_at.polls k apart
 
   -- an entry is said, which was owed next
-  pub says_goes : (what : What) (p : PollRule) (given : List Completion) (calls' : List Call) (due : Due) (rest left : List Due) → given_in p.state given ≡ given → dues_of_thread h.dues t ≡ due ∷ rest → Answers due what → left_by due what ≡ left
+  pub says_goes : (what : What) (p : PollRule) (given : List Completion) (calls' : List Call) (due : Due) (rest left : List Due) → given_in p.state given ≡ given → dues_of_thread h.dues t ≡ due ∷ rest → Answers due what → Serves r.verbs what p.seen → left_by due what ≡ left
       → within.Goes (length d.qps) total r.verbs (suc t) what (slice_set h.dues t (left ++ rest)) → ThreadStands d programs (suc t) (goes_on th cq p given calls') (left ++ rest)
-      → Moves d (view programs w) cq m' h.stands.lists r.verbs p given (after r.verbs what) → Goes d programs total m' (poll_goes_on w t cq p given calls') r (Some (by (suc t) what))
-  says_goes what p given calls' due rest left shown is answers leaves goes thread move =
+      → Moves d (view programs w) cq m' h.stands.lists r.verbs p given (after r.verbs what) → Goes d programs total m' (poll_goes_on w t cq p given calls') r p.seen (Some (by (suc t) what))
+  says_goes what p given calls' due rest left shown is answers serves leaves goes thread move =
       let low : t < length h.dues = (owes_from h.dues t due rest is).low in
       let owed : r.owed (suc t) ≡ due ∷ rest = ap (λ (f : ℕ → List Due). f (suc t)) h.owed ∙ is in
       let after_is : after_answer (r.owed (suc t)) what ≡ left ++ rest = ap (λ (ds : List Due). after_answer ds what) owed ∙ ap (λ (ds : List Due). ds ++ rest) leaves in
       let now : dues_at (slice_set h.dues t (left ++ rest)) (suc t) ≡ left ++ rest = get_or-set_same h.dues t (left ++ rest) [] low in (
-        record { legal = goes.legal; due = subst (λ (ds : List Due). MayAnswer ds what) (sym owed) answers },
+        record { legal = goes.legal; due = subst (λ (ds : List Due). MayAnswer ds what) (sym owed) answers; serves = serves },
         record {
           dues = slice_set h.dues t (left ++ rest);
           owed = ap (λ (f : ℕ → List Due). put (λ (j k : ℕ). j == k) f (suc t) (after_answer (r.owed (suc t)) what)) h.owed ∙ ap (λ (ds : List Due). put (λ (j k : ℕ). j == k) (dues_at h.dues) (suc t) ds) after_is ∙ sym (dues_at-set h.dues t (left ++ rest) low);

@@ -85,7 +85,7 @@ module _ (d : Lines) (programs : List (List Call)) (total : Bounds) (m m' : Memo
   owed_first = owed_now d programs total m m' w r t cq most h calls calls_are job ∙ sym (begun_owes d cq most job.due job.more (th.polls cq).state)
 
   abbrev goal : PollRule → List Completion → List Call → Option What → Type 0
-  goal p given calls' told = Goes d programs total m' (record { adapter = w.adapter; threads = put_number w.threads (suc t) (goes_on th cq p given calls'); posted = posted_with w.posted told }) r (option_map (by (suc t)) told)
+  goal p given calls' told = Goes d programs total m' (record { adapter = w.adapter; threads = put_number w.threads (suc t) (goes_on th cq p given calls'); posted = posted_with w.posted told }) r p.seen (option_map (by (suc t)) told)
 
   as_told : (p : PollRule) (given : List Completion) (old calls' : List Call) (said told : Option What) → old ≡ calls' → said ≡ told → goal p given calls' told → goal p given old said
   as_told p given old calls' said told same says g = subst (λ (cs : List Call). goal p given cs said) (sym same) (subst (goal p given calls') (sym says) g)
@@ -112,7 +112,7 @@ module _ (d : Lines) (programs : List (List Call)) (total : Bounds) (m m' : Memo
         (thread_goes_on d programs total m m' w r t cq most h calls calls_are job p (given_after th.given answer) o.polls) in
         as_told p (given_after th.given answer) (calls_after answer) calls (speak said) (Some (Poll cq most xs)) (speaks.goes_on answer o.goes_on) (ap speak o.says ∙ speaks.tells xs some)
         (says_goes d programs total m m' w r t cq most h calls calls_are job (Poll cq most xs) p (given_after th.given answer) calls job.due job.more (ends_owed cq us) (shown_for most _ p.state o.polls) is
-        (speaks.answers xs some (omega (arith, long, few))) (speaks.leaves xs) (speaks.goes (length d.qps) total r.verbs h.dues t job.more h.stands.bare.sound.bounded (owes_from h.dues t job.due job.more is)) thread o.moved)
+        (speaks.answers xs some (omega (arith, long, few))) o.serves (speaks.leaves xs) (speaks.goes (length d.qps) total r.verbs h.dues t job.more h.stands.bare.sound.bounded (owes_from h.dues t job.due job.more is)) thread o.moved)
 
     on_none : FindsNone d m' (view programs w) cq most h.stands.lists r.verbs now_is th.given p answer said → wanted
     on_none o = elim speaks.empty [
@@ -123,7 +123,7 @@ module _ (d : Lines) (programs : List (List Call)) (total : Bounds) (m m' : Memo
           let goes = subst (λ (vs : List Unpolled). within.Goes (length d.qps) total r.verbs (suc t) (Poll cq most (map completion_in vs)) (slice_set h.dues t (ends_owed cq vs ++ job.more))) none (speaks.goes (length d.qps) total r.verbs h.dues t job.more h.stands.bare.sound.bounded (owes_from h.dues t job.due job.more is)) in
           subst (λ (x : Step Completion PollAnswer). goal p (given_after th.given x) (calls_after x) (speak said)) (sym o.over)
           (as_told p [] (calls_after (Done (Polled 0 o.word))) job.left (speak said) (Some (Poll cq most [])) (tells.over o.word) (ap speak o.says ∙ tells.says)
-          (says_goes d programs total m m' w r t cq most h calls calls_are job (Poll cq most []) p [] job.left job.due job.more [] (shown_none p.state) is tells.answers (speaks.leaves []) goes
+          (says_goes d programs total m m' w r t cq most h calls calls_are job (Poll cq most []) p [] job.left job.due job.more [] (shown_none p.state) is tells.answers o.serves (speaks.leaves []) goes
           (thread_ends d programs total m m' w r t cq most h calls calls_are job p o.idle) (subst (λ (x : Verbs). Moves d (view programs w) cq m' h.stands.lists r.verbs p [] x) (sym (polls_none r.verbs cq most)) o.moved)))
       | inr again ↦
           let loads : is_storing p.state ≡ false = ap is_storing o.idle in
@@ -141,7 +141,7 @@ module _ (d : Lines) (programs : List (List Call)) (total : Bounds) (m m' : Memo
         (thread_goes_on d programs total m m' w r t cq most h calls calls_are job p th.given o.polls) in
         subst (λ (x : Step Completion PollAnswer). goal p (given_after th.given x) (calls_after x) (speak said)) (sym o.more)
         (as_told p th.given (calls_after More) calls (speak said) (Some (Retire (Send o.qp) o.number)) (speaks.goes_on More tt) (ap speak o.says ∙ speaks.retires (Send o.qp) o.number)
-        (says_goes d programs total m m' w r t cq most h calls calls_are job (Retire (Send o.qp) o.number) p th.given calls (Retiring (Send o.qp)) rest [] (shown_for most th.given p.state o.polls) is refl refl
+        (says_goes d programs total m m' w r t cq most h calls calls_are job (Retire (Send o.qp) o.number) p th.given calls (Retiring (Send o.qp)) rest [] (shown_for most th.given p.state o.polls) is refl tt refl
         (retire_goes (length d.qps) total r.verbs h.dues t o.qp o.number o.others rest h.stands.bare.sound.bounded (owes_from h.dues t (Retiring (Send o.qp)) rest is) o.first) thread o.moved))
 
     on_end : Acknowledges d m' (view programs w) cq most h.stands.lists r.verbs now_is th.given p answer said → wanted
@@ -150,7 +150,7 @@ module _ (d : Lines) (programs : List (List Call)) (total : Bounds) (m m' : Memo
         let is : dues_of_thread h.dues t ≡ Acking cq ∷ job.more = owed_first ∙ owed_behind d cq job.due job.more now_is.state o.before ∙ ap (λ (ds : List Due). ds ++ job.more) o.owed in
         subst (λ (x : Step Completion PollAnswer). goal p (given_after th.given x) (calls_after x) (speak said)) (sym o.over)
         (as_told p [] (calls_after (Done (Polled o.taken o.word))) job.left (speak said) (Some (Ack cq index)) (speaks.over o.taken o.word o.some) (ap speak o.says ∙ speaks.acks index)
-        (says_goes d programs total m m' w r t cq most h calls calls_are job (Ack cq index) p [] job.left (Acking cq) job.more [] (shown_none p.state) is refl refl
+        (says_goes d programs total m m' w r t cq most h calls calls_are job (Ack cq index) p [] job.left (Acking cq) job.more [] (shown_none p.state) is refl tt refl
         (ack_goes (length d.qps) total r.verbs h.dues t cq job.more h.stands.bare.sound.bounded (owes_from h.dues t (Acking cq) job.more is)) (thread_ends d programs total m m' w r t cq most h calls calls_are job p o.idle) o.moved))
 
     pub finish : Outcome d m' (view programs w) cq most h.stands.lists r.verbs now_is th.given p answer said → wanted

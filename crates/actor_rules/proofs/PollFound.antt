@@ -1,5 +1,5 @@
 -- The last load of a lookup by a poll, which finds the end.
-use Rattle.std.proofs.Common.{◌≡◌, ℕ, inl, inr, refl, sym, ap, ◌∙◌, subst, arith, ◌<◌, ◌+◌, ◌++◌, Bool, true, false, if◌then◌else◌, nat_lt, List, [], ◌∷◌, length, map, take, slice_get, Option, None, Some}
+use Rattle.std.proofs.Common.{◌≡◌, ℕ, inl, inr, refl, sym, ap, ◌∙◌, subst, arith, ◌<◌, ◌≤◌, ◌+◌, ◌++◌, Bool, true, false, if◌then◌else◌, nat_lt, List, [], ◌∷◌, length, map, take, slice_get, Option, None, Some}
 use Rattle.std.proofs.lemmas.Bool.{ltb-true, ltb-false}
 use Rattle.std.proofs.lemmas.List.{length_push, map_push}
 use Rattle.bus_core.specs.declared.operation.BusEntry.{BusEntry}
@@ -46,6 +46,10 @@ use Rattle.actor_rules.proofs.PollOutcomes.{Outcome, GoesOn, Takes}
 use Rattle.actor_rules.proofs.PollMoves.{queue_moves}
 use Rattle.actor_rules.proofs.PollTells.{told, told_keeps, told_retired, taken_placed, told_stands}
 use Rattle.actor_rules.proofs.PollLoads.{nothing_kept}
+use Rattle.cq_pair.specs.Queue.{produced}
+use Rattle.owner_ring.specs.Consumer.{next_index}
+use Rattle.object_places.specs.Places.{completions_of}
+use Rattle.actor_rules.proofs.PollShows.{below_produced, full_serves}
 use Rattle.actor_rules.proofs.PollReady.{views, Finds, first_ready, stores_these, idle_beside, climbs_now, later_now}
 use Rattle.actor_rules.proofs.PollServed.{retirers_with_side, side_here, side_there, side_cases, sides_long, finds_with_side}
 
@@ -133,6 +137,9 @@ module _ (d : Lines) (m : Memory) (around : View) (cq most : ℕ) (l : Lists) (v
     side_at state = record { host = c; seen = seen; retirers = rs'; state = state }
 
     module _ (inside : touches d (Sends qp) e.addr ≡ true) (tied : requests.Tied (send_of d qp) (after_entry m e) (around.posters (Send qp)) knows (around.readers qp) (l.queues (Send qp))) where
+      within : next_index c ≤ produced (l.completions cq)
+      within = (below_produced (completions_of d cq) m (around.devices cq) c (l.completions cq) now.host).0
+
       -- it looks at the next one
       looks_on : length es + 1 < most → Comes (side_at (states.Polling most (record { items = es' }))) (Gave u.completion) None
       looks_on more =
@@ -159,6 +166,7 @@ module _ (d : Lines) (m : Memory) (around : View) (cq most : ℕ) (l : Lists) (v
                 low = s.low;
                 unpolled = s.unpolled;
                 reads = s.reads;
+                shows = record { least = s.shows.least; enough = λ holds. s.shows.enough (omega arith); reading = s.shows.reading };
                 poll = (record { ends = match_now; given = given_all }, omega (arith, longer, more), s.poll.2);
                 retirers = sides_long d m around cq most l v side given now e qp place knows;
                 asked = λ i. subst (AskedFor (states.Polling most (record { items = es' })) i) (sym (none_asked i)) tt;
@@ -187,6 +195,9 @@ module _ (d : Lines) (m : Memory) (around : View) (cq most : ℕ) (l : Lists) (v
             goes_on = tt;
             says = ap (λ (ys : List Completion). Some (Poll cq most ys)) (given_all ∙ ap (map completion_in) (sym whole));
             some = let count = match_length (IsEnd d cq rs') es' (take most us) match in omega (arith, longer, count);
+            serves =
+                let count = match_length (IsEnd d cq rs') es' (take most us) match in
+                full_serves d cq most l v side given s within seen (omega (arith, s.shows.least, s.counts.produced)) (omega (arith, count, longer, full)) (omega (arith, s.shows.enough (omega arith), s.from_is, full));
             polls = tt;
             before = refl;
             stores = refl;
@@ -207,6 +218,7 @@ module _ (d : Lines) (m : Memory) (around : View) (cq most : ℕ) (l : Lists) (v
                 match = match;
                 next = let count : s.from + length es' ≡ s.from + (length es + 1) = ap (λ (n : ℕ). s.from + n) longer in count ∙ s.from_is;
                 reads = s.reads;
+                shows = record { least = s.shows.least; enough = λ holds. absurd (omega (arith, holds)); reading = s.shows.reading };
                 long = sides_long d m around cq most l v side given now e qp place knows;
                 none = none_asked;
               });

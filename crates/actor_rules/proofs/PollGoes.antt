@@ -19,7 +19,7 @@ use Rattle.provider_poll.specs.RuleStep.{after_poll_side}
 use Rattle.actor_rules.specs.Family.{put_number}
 use Rattle.actor_rules.specs.Thread.{Thread, poll_place}
 use Rattle.actor_rules.specs.Polling.{MayPoll, poll_now, poll_mark, polled, poll_says, took_some, given_after, drain_left, calls_after_poll, calls_after_drain}
-use Rattle.actor_rules.specs.Calls.{after_call, call_says, thread_says}
+use Rattle.actor_rules.specs.Calls.{after_call, call_says, call_sees, thread_says, thread_sees}
 use Rattle.actor_rules.specs.Actors.{Actors, by, after_by, posted_with}
 use Rattle.verbs_laws.proofs.Choices.{differs}
 use Rattle.verbs_laws.proofs.GoesSettle.{polling_goes, draining_goes}
@@ -37,11 +37,11 @@ module _ (d : Lines) (programs : List (List Call)) (total : Bounds) (map : IsMap
   abbrev th : Thread
   th = w.threads (suc t)
 
-  abbrev goal : Thread → Option What → Type 0
-  goal now told = Goes d programs total (after_entry m x.entry) (record { adapter = w.adapter; threads = put_number w.threads (suc t) now; posted = posted_with w.posted told }) r (option_map (by (suc t)) told)
+  abbrev goal : Thread → ℕ → Option What → Type 0
+  goal now seen told = Goes d programs total (after_entry m x.entry) (record { adapter = w.adapter; threads = put_number w.threads (suc t) now; posted = posted_with w.posted told }) r seen (option_map (by (suc t)) told)
 
   abbrev Wanted : List Call → Type 0
-  Wanted calls = goal (after_call d th calls x) (call_says d th calls x)
+  Wanted calls = goal (after_call d th calls x) (call_sees d th calls x) (call_says d th calls x)
 
   own_calls : (calls : List Call) → th.calls ≡ calls → AllByRecursion (IsOwnCall d programs (suc t)) calls
   own_calls calls are = subst (AllByRecursion (IsOwnCall d programs (suc t))) are (h.stands.bare.threads t).calls
@@ -58,7 +58,7 @@ module _ (d : Lines) (programs : List (List Call)) (total : Bounds) (map : IsMap
     abbrev answer : Step Completion PollAnswer
     answer = (polled d th cq most x).answer
 
-    goes : goal (record { calls = calls_after answer; posting = th.posting; given = given_after th.given answer; posters = th.posters; polls = put_number th.polls cq then_is; ended = th.ended }) (speak (poll_says d th cq most x))
+    goes : goal (record { calls = calls_after answer; posting = th.posting; given = given_after th.given answer; posters = th.posters; polls = put_number th.polls cq then_is; ended = th.ended }) then_is.seen (speak (poll_says d th cq most x))
     goes = finish d programs total m (after_entry m x.entry) w r t cq most h calls calls_are job calls_after speak speaks then_is answer (poll_says d th cq most x)
         (comes d m (view programs w) cq most h.stands.lists r.verbs now.host now.seen now.retirers th.given x.entry tells now.state x.mark (poll_stands d programs total m w r t cq most map h calls calls_are job) may.on may.goes_on)
 
@@ -124,9 +124,9 @@ module _ (d : Lines) (programs : List (List Call)) (total : Bounds) (map : IsMap
     in_drain may = subst Wanted (sym calls_are) (goes cq 1 (Drain cq count ∷ rest) calls_are job_of_drain (calls_after_drain th.calls cq count rest) took_some drain_speaks may)
 
 pub poll_goes : (d : Lines) (programs : List (List Call)) (total : Bounds) → IsMapped d → (m : Memory) (w : Actors) (r : Running) (x : Marked Mark) (t cq most : ℕ) (rest : List Call) → Holds d programs total m w r → x.entry.actor ≡ suc t
-    → (w.threads (suc t)).calls ≡ Poll cq most ∷ rest → Tells m x.entry → MayPoll d (w.threads (suc t)) cq most x → Goes d programs total (after_entry m x.entry) (after_by d w (suc t) x) r (option_map (by (suc t)) (thread_says d (w.threads (suc t)) x))
+    → (w.threads (suc t)).calls ≡ Poll cq most ∷ rest → Tells m x.entry → MayPoll d (w.threads (suc t)) cq most x → Goes d programs total (after_entry m x.entry) (after_by d w (suc t) x) r (thread_sees d (w.threads (suc t)) x) (option_map (by (suc t)) (thread_says d (w.threads (suc t)) x))
 poll_goes d programs total map m w r x t cq most rest h actor calls_are tells may = in_poll d programs total map m w r x t h tells cq most rest calls_are may
 
 pub drain_goes : (d : Lines) (programs : List (List Call)) (total : Bounds) → IsMapped d → (m : Memory) (w : Actors) (r : Running) (x : Marked Mark) (t cq count : ℕ) (rest : List Call) → Holds d programs total m w r → x.entry.actor ≡ suc t
-    → (w.threads (suc t)).calls ≡ Drain cq count ∷ rest → Tells m x.entry → MayPoll d (w.threads (suc t)) cq 1 x → Goes d programs total (after_entry m x.entry) (after_by d w (suc t) x) r (option_map (by (suc t)) (thread_says d (w.threads (suc t)) x))
+    → (w.threads (suc t)).calls ≡ Drain cq count ∷ rest → Tells m x.entry → MayPoll d (w.threads (suc t)) cq 1 x → Goes d programs total (after_entry m x.entry) (after_by d w (suc t) x) r (thread_sees d (w.threads (suc t)) x) (option_map (by (suc t)) (thread_says d (w.threads (suc t)) x))
 drain_goes d programs total map m w r x t cq count rest h actor calls_are tells may = in_drain d programs total map m w r x t h tells cq count rest calls_are may

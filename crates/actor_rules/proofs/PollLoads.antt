@@ -1,5 +1,5 @@
 -- A load of the completion queue's words, by a poll.
-use Rattle.std.proofs.Common.{◌≡◌, ℕ, suc, refl, sym, ap, ◌∙◌, subst, arith, ◌==◌, ◌+◌, ◌-◌, ◌<◌, Bool, true, false, if◌then◌else◌, List, [], ◌∷◌, length, map, take, slice_get, Option, None, Some}
+use Rattle.std.proofs.Common.{◌≡◌, ℕ, suc, refl, sym, ap, ◌∙◌, subst, arith, ◌==◌, ◌+◌, ◌-◌, ◌<◌, ◌≤◌, Bool, true, false, if◌then◌else◌, List, [], ◌∷◌, length, map, take, slice_get, Option, None, Some}
 use Rattle.std.proofs.lemmas.Bool.{eqb-true, eq-eqb, false≢true}
 use Rattle.std.proofs.lemmas.List.{length-drop, nil_from_length}
 use Rattle.bus_core.specs.declared.operation.BusEntry.{BusEntry}
@@ -18,7 +18,8 @@ use Rattle.owner_ring.specs.Consumer.{Consumer, next_index}
 use Rattle.cqe_format.specs.declared.completion.Cqe.{Cqe}
 use Rattle.cq_pair.specs.declared.place.CqPlace.{CqPlace}
 use Rattle.cq_pair.specs.Mark.{QueueMark}
-use Rattle.cq_pair.specs.Queue.{PlainQueue, QueueEvent, Published, Overrun, Lost, Took, Empty, Acked, since}
+use Rattle.actor_map.specs.Notes.{Serves}
+use Rattle.cq_pair.specs.Queue.{PlainQueue, QueueEvent, produced, Published, Overrun, Lost, Took, Empty, Acked, since}
 use Rattle.cq_pair.specs.Queue as plain
 use Rattle.cq_pair.specs.Host.{after_poll, polled}
 use Rattle.cq_pair.proofs.Tied as completions
@@ -43,7 +44,7 @@ use Rattle.actor_rules.specs.Polling.{place_in, given_with, load_says}
 use Rattle.actor_rules.proofs.View.{View}
 use Rattle.actor_rules.proofs.Matching.{Match, match_at, match_length}
 use Rattle.actor_rules.proofs.Objects.{Lists, retirer_in}
-use Rattle.actor_rules.proofs.Completions.{CompletionsIn, ends_in, IsCompletion, IsEnd, AskedFor, ReadsNext}
+use Rattle.actor_rules.proofs.Completions.{CompletionsIn, ends_in, IsCompletion, IsEnd, AskedFor, ReadsNext, Shows}
 use Rattle.verbs_laws.proofs.Waiting.{completion_in}
 use Rattle.actor_rules.proofs.PollFrame.{Moves, verbs_refl}
 use Rattle.actor_rules.proofs.PollLists.{IsPlaced, all_at, slice_get-drop, slice_get-take, stores_owed}
@@ -52,6 +53,7 @@ use Rattle.actor_rules.proofs.PollOutcomes.{Outcome, GoesOn, Takes, Nothing}
 use Rattle.actor_rules.proofs.PollMoves.{VerbsKept, host_moves}
 use Rattle.actor_rules.proofs.PollTells.{told, told_keeps, told_retired, taken_placed, told_stands}
 use Rattle.actor_rules.proofs.PollLooks.{IsLook, look_says, look_reads}
+use Rattle.actor_rules.proofs.PollShows.{Sees, ShowsAs, look_sees, below_produced, exact_serves}
 use Rattle.actor_rules.proofs.PollReady.{views, first_ready, stores_these, place_found, idle_polling, finds_now, later_now, take_whole, take_within}
 
 pub nothing_kept : (d : Lines) (cq : ℕ) (v : Verbs) → VerbsKept d cq v v
@@ -74,12 +76,18 @@ module _ (d : Lines) (m : Memory) (around : View) (cq most : ℕ) (l : Lists) (v
   abbrev Comes : PollRule → Step Completion PollAnswer → Option What → Type 0
   Comes p answer said = Outcome d (after_entry m e) around cq most l v side given p answer said
 
-  module _ (c' : Consumer) (seen' : ℕ) (inside : touches d (Completions cq) e.addr ≡ true) (reads : ReadsNext c') where
+  module _ (c' : Consumer) (seen' : ℕ) (look : Option QueueEvent) (sees : Sees c' seen seen' look) (inside : touches d (Completions cq) e.addr ≡ true) (reads : ReadsNext c') where
     abbrev side_at : PollState → PollRule
     side_at state = record { host = c'; seen = seen'; retirers = rs; state = state }
 
     abbrev tied_with : PlainQueue → Type 0
     tied_with x = completions.Tied (completions_of d cq) (after_entry m e) (around.devices cq) c' x
+
+    -- what it has seen then
+    shows_with : (x : PlainQueue) (holds : ℕ) → tied_with x → produced x ≡ produced q → (0 < holds → next_index c' ≤ seen') → Shows c' seen' holds (produced x)
+    shows_with x holds tied same enough =
+        let below = below_produced (completions_of d cq) (after_entry m e) (around.devices cq) c' x tied in
+        record { least = sees.least (produced x) (omega (arith, now.stands.shows.least, same)) below.0 below.1; enough = enough; reading = sees.reading }
 
     -- nothing but the host has moved
     moves : (state : PollState) (x : PlainQueue) (given' : List Completion) → tied_with x → CompletionsIn d cq l.queues x (side_at state) given' (completions_in v cq) (ends_in v) → Moves d around cq (after_entry m e) l v (side_at state) given' v
@@ -93,8 +101,8 @@ module _ (d : Lines) (m : Memory) (around : View) (cq most : ℕ) (l : Lists) (v
     })
 
     -- it goes on reading
-    reads_more : tied_with q → Comes (side_at (states.Polling most (record { items = es }))) More None
-    reads_more tied =
+    reads_more : ShowsAs c' seen' None → tied_with q → Comes (side_at (states.Polling most (record { items = es }))) More None
+    reads_more shown tied =
         let s = now.stands in
         GoesOn (record {
           goes_on = tt;
@@ -109,6 +117,7 @@ module _ (d : Lines) (m : Memory) (around : View) (cq most : ℕ) (l : Lists) (v
             low = s.low;
             unpolled = s.unpolled;
             reads = reads;
+            shows = shows_with q (length es) tied refl (λ holds. shown);
             poll = s.poll;
             retirers = s.retirers;
             asked = s.asked;
@@ -117,7 +126,7 @@ module _ (d : Lines) (m : Memory) (around : View) (cq most : ℕ) (l : Lists) (v
         })
 
     -- it took one, and looks its request up
-    module _ (i : ℕ) (completion : Cqe) (next : i ≡ next_index c) (took : plain.MayTake q i completion) (tied : tied_with (plain.after_event q (Took i completion))) where
+    module _ (i : ℕ) (completion : Cqe) (next : i ≡ next_index c) (took : plain.MayTake q i completion) (tied : tied_with (plain.after_event q (Took i completion))) (shown : i < seen') where
       there : slice_get (since q from) (length es) ≡ Some completion
       there =
           let same : from - q.acked + length es ≡ i - q.acked = omega (arith, now.stands.low, now.stands.from_is, next) in
@@ -146,6 +155,7 @@ module _ (d : Lines) (m : Memory) (around : View) (cq most : ℕ) (l : Lists) (v
               low = s.low;
               unpolled = s.unpolled;
               reads = reads;
+              shows = shows_with q_now (length es + 1) tied refl (λ holds. let next_is : i + 1 ≡ next_index c' = tied.fits.polled in omega (arith, shown, next_is));
               poll = (s.poll.0, s.poll.1, s.poll.2, record { unpolled = u; next_is = at_u; spells = is; queue_is = refl });
               retirers = s.retirers;
               asked = λ place. asks_none (place_in d cq u.completion.qp) place (retirer_in rs place).asked (idle_polling most (record { items = es }) place (retirer_in rs place).asked (s.asked place));
@@ -163,7 +173,19 @@ module _ (d : Lines) (m : Memory) (around : View) (cq most : ℕ) (l : Lists) (v
           subst (λ (o : Option ℕ). Comes (side_at (turn_with o).state) (turn_with o).answer (load_says cq most (given_with given (turn_with o).answer) (turn_with o).state)) (sym (place_found d cq l rs completion u.0 now.stands.retirers placed u.2)) (looks_up u.0 u.1 u.2)
 
     -- it found no more
-    module _ (i : ℕ) (none : plain.MayFindNone q i) (tied : tied_with q) (word : ℕ) where
+    module _ (i : ℕ) (none : plain.MayFindNone q i) (tied : tied_with q) (shown : seen' ≡ i) (word : ℕ) where
+      within : next_index c ≤ produced q
+      within = (below_produced (completions_of d cq) m (around.devices cq) c q now.host).0
+
+      -- all that was published was seen
+      exact : seen' ≡ v.device.produced cq
+      exact =
+          let left = ap length none.none in
+          omega (arith, shown, none.index_is, left, length-drop (q.polled - q.acked) q.completions, now.stands.counts.produced, now.stands.low, now.stands.from_is, now.host.fits.polled, within)
+
+      serves : Serves v (Poll cq most (map completion_in (take most us))) seen'
+      serves = exact_serves d cq most l v side given now.stands within seen' exact (take_within most us)
+
       all_taken : length us ≡ length es
       all_taken =
           let few = match_length (IsEnd d cq rs) es (take (length es) us) now.stands.poll.0.ends in
@@ -182,6 +204,7 @@ module _ (d : Lines) (m : Memory) (around : View) (cq most : ℕ) (l : Lists) (v
             over = refl;
             says = ap (λ (xs : List Completion). Some (Poll cq most xs)) no_given;
             none = nil_from_length us (all_taken ∙ empty);
+            serves = subst (λ (xs : List Unpolled). Serves v (Poll cq most (map completion_in xs)) seen') (nil_from_length (take most us) (omega (arith, take_within most us, all_taken, empty))) serves;
             before = refl;
             idle = refl;
             moved = moves states.Idle q [] tied (record {
@@ -191,6 +214,7 @@ module _ (d : Lines) (m : Memory) (around : View) (cq most : ℕ) (l : Lists) (v
               low = s.low;
               unpolled = s.unpolled;
               reads = reads;
+              shows = shows_with q 0 tied refl (λ holds. absurd (omega (arith, holds)));
               poll = tt;
               retirers = s.retirers;
               asked = λ place. subst (AskedFor states.Idle place) (sym (idle_polling most (record { items = es }) place (retirer_in rs place).asked (s.asked place))) tt;
@@ -219,6 +243,7 @@ module _ (d : Lines) (m : Memory) (around : View) (cq most : ℕ) (l : Lists) (v
             goes_on = tt;
             says = ap (λ (ys : List Completion). Some (Poll cq most ys)) (s.poll.0.given ∙ ap (map completion_in) (sym whole));
             some = let same = match_length (IsEnd d cq rs) es (take most us) match in omega (arith, some, same);
+            serves = serves;
             polls = tt;
             before = refl;
             stores = refl;
@@ -236,6 +261,7 @@ module _ (d : Lines) (m : Memory) (around : View) (cq most : ℕ) (l : Lists) (v
                 match = match;
                 next = s.from_is ∙ sym now.host.fits.polled ∙ tied.fits.polled;
                 reads = reads;
+                shows = shows_with q 0 tied refl (λ holds. absurd (omega (arith, holds)));
                 long = s.retirers;
                 none = none_asked;
               });
@@ -264,20 +290,21 @@ module _ (d : Lines) (m : Memory) (around : View) (cq most : ℕ) (l : Lists) (v
     abbrev turn_after : Option QueueEvent → PollStep
     turn_after said = after_look cq (views d cq rs) most (record { items = es }) seen' (host_step e said)
 
-    pub by_said : (said : Option QueueEvent) → IsLook c said → completions.Goes (completions_of d cq) (after_entry m e) (around.devices cq) c' q said
+    pub by_said : (said : Option QueueEvent) → IsLook c said → ShowsAs c' seen' said → completions.Goes (completions_of d cq) (after_entry m e) (around.devices cq) c' q said
         → Comes (side_at (turn_after said).state) (turn_after said).answer (load_says cq most (given_with given (turn_after said).answer) (turn_after said).state)
-    by_said None says g = reads_more g
-    by_said (Some (Took i completion)) says g = on_took i completion says g.0 g.1
-    by_said (Some (Empty i)) says g = on_none i g.0 g.1 (loaded e)
-    by_said (Some (Published i completion)) says g = absurd says
-    by_said (Some (Overrun i ci)) says g = absurd says
-    by_said (Some Lost) says g = absurd says
-    by_said (Some (Acked ci)) says g = absurd says
+    by_said None says shown g = reads_more shown g
+    by_said (Some (Took i completion)) says shown g = on_took i completion says g.0 g.1 shown
+    by_said (Some (Empty i)) says shown g = on_none i g.0 g.1 shown (loaded e)
+    by_said (Some (Published i completion)) says shown g = absurd says
+    by_said (Some (Overrun i ci)) says shown g = absurd says
+    by_said (Some Lost) says shown g = absurd says
+    by_said (Some (Acked ci)) says shown g = absurd says
 
   -- a load of the completion queue's words
   pub loads : (mark : QueueMark) → Tells m e → MayLook (poll_place d cq) side mark e
       → Comes (after_poll_side (poll_place d cq) side (OnHost mark) e) (poll_side_step (poll_place d cq) side (OnHost mark) e).answer (load_says cq most (given_with given (poll_side_step (poll_place d cq) side (OnHost mark) e).answer) (poll_side_step (poll_place d cq) side (OnHost mark) e).state)
   loads mark tells may =
       let place : CqPlace = completions_of d cq in
-      by_said (after_poll place c mark e) (seen_by (poll_place d cq) side mark e) (poll_inside place m (around.devices cq) c q mark e now.host may.polls) (look_reads place e c mark may.next now.stands.reads)
-      (polled place c mark e) (look_says place e c mark may.next now.stands.reads) (host.host_step place m (around.devices cq) c q mark e now.fine now.host tells may.polls)
+      let sees = look_sees place e seen c mark may.next now.stands.reads now.stands.shows.reading in
+      by_said (after_poll place c mark e) (seen_by (poll_place d cq) side mark e) (polled place c mark e) sees (poll_inside place m (around.devices cq) c q mark e now.host may.polls) (look_reads place e c mark may.next now.stands.reads)
+      (polled place c mark e) (look_says place e c mark may.next now.stands.reads) sees.shows (host.host_step place m (around.devices cq) c q mark e now.fine now.host tells may.polls)

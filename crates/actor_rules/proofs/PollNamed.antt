@@ -72,6 +72,7 @@ module _ (d : Lines) (m : Memory) (around : View) (cq most : ℕ) (l : Lists) (v
         low = s.low;
         unpolled = s.unpolled;
         reads = s.reads;
+        shows = s.shows;
         poll = (record { ends = match_weaken (IsEnd d cq rs) (IsEnd d cq rs') ends_kept es _ s.poll.0.ends; given = s.poll.0.given }, s.poll.1, s.poll.2, s.poll.3);
         retirers = sides_long d m around cq most l v side given now e qp place asking;
         asked = side_cases d m around cq most l v side given now e qp place asking (λ i r. AskedFor (states.LookingUp most (record { items = es }) cqe queue) i r.asked) (sym is_here, refl) (λ i apart. s.asked i);

@@ -71,6 +71,7 @@ module _ (d : Lines) (cq : ℕ) (l : Lists) (given : List Completion) (v : Verbs
     low = h.low;
     unpolled = h.unpolled;
     reads = h.reads;
+    shows = record { least = h.shows.least; enough = λ holds. absurd (omega (arith, holds)); reading = h.shows.reading };
     poll = (record { ends = tt; given = nothing }, some, few);
     retirers = h.retirers;
     asked = λ place. none_asked (retirer_in p.retirers place).asked place (subst (λ (s : PollState). AskedFor s place (retirer_in p.retirers place).asked) is (h.asked place));

@@ -11,6 +11,7 @@ use Rattle.verbs_types.specs.declared.declaration.Lines.{Lines}
 use Rattle.verbs_types.specs.declared.entry.What.{What}
 use Rattle.verbs_types.specs.declared.entry.What.TheVariants.{Poll, Retire, Ack}
 use Rattle.verbs_types.specs.declared.state.Unpolled.{Unpolled}
+use Rattle.actor_map.specs.Notes.{Serves}
 use Rattle.verbs_rules.specs.Answered.{Due, Retiring, Acking, Answers, left_by, settling}
 use Rattle.verbs_rules.specs.State.{Verbs}
 use Rattle.verbs_rules.specs.Step.{after}
@@ -58,6 +59,7 @@ module _ (d : Lines) (m : Memory) (around : View) (cq most : ℕ) (l : Lists) (v
     pub goes_on : IsOngoing answer
     pub says : said ≡ Some (Poll cq most (map completion_in polled))
     pub some : 0 < length polled
+    pub serves : Serves v (Poll cq most (map completion_in polled)) now.seen
     pub polls : IsPollFor most (given_after given answer) now.state
     pub before : is_storing p.state ≡ false
     pub stores : is_storing now.state ≡ true
@@ -70,6 +72,7 @@ module _ (d : Lines) (m : Memory) (around : View) (cq most : ℕ) (l : Lists) (v
     pub over : answer ≡ Done (Polled 0 word)
     pub says : said ≡ Some (Poll cq most [])
     pub none : (v.unpolled cq) ≡ []
+    pub serves : Serves v (Poll cq most []) now.seen
     pub before : is_storing p.state ≡ false
     pub idle : now.state ≡ states.Idle
     pub moved : moves now [] v

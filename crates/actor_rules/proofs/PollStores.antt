@@ -154,6 +154,7 @@ module _ (d : Lines) (m : Memory) (around : View) (cq most : ℕ) (l : Lists) (v
           low = s.low;
           unpolled = s.unpolled;
           reads = s.reads;
+          shows = record { least = s.shows.least; enough = λ some. absurd (omega (arith, some, holds)); reading = s.shows.reading };
           poll = polls (v.unpolled cq);
           retirers = sides_long d m around cq most l v side given now e qp place stored;
           asked = λ i. subst (AskedFor state i) (sym (none_asked i)) (asks i);

@@ -16,7 +16,7 @@ use Rattle.verbs_rules.specs.OfOne.{completions_in}
 use Rattle.verbs_rules.specs.Step.{after}
 use Rattle.owner_ring.specs.Consumer.{Consumer, next_index}
 use Rattle.cqe_format.specs.declared.completion.Cqe.{Cqe}
-use Rattle.cq_pair.specs.Queue.{since}
+use Rattle.cq_pair.specs.Queue.{produced, since}
 use Rattle.counted_ring.specs.Retirer.{Asked, Retirer}
 use Rattle.provider_poll.specs.declared.state.End.{End}
 use Rattle.provider_poll.specs.declared.state.PollState.TheVariants as states
@@ -28,7 +28,7 @@ use Rattle.verbs_rules.specs.Sane.{numbers_in}
 use Rattle.verbs_laws.proofs.Choices.{differs}
 use Rattle.actor_rules.proofs.Matching.{Match, match_drop, match_length}
 use Rattle.actor_rules.proofs.Objects.{Lists, retirer_in}
-use Rattle.actor_rules.proofs.Completions.{CompletionsIn, ends_in, CompletionsStand, IsCompletion, IsEnd, IsPending, AskedFor, ReadsNext, ends_on, pending}
+use Rattle.actor_rules.proofs.Completions.{CompletionsIn, ends_in, CompletionsStand, IsCompletion, IsEnd, IsPending, AskedFor, ReadsNext, Shows, ends_on, pending}
 use Rattle.verbs_laws.proofs.Waiting.{completion_in, ended_at}
 use Rattle.actor_rules.proofs.PollPlaces.{living_by_place, place_by_living}
 use Rattle.actor_rules.proofs.Threading.{put_here, put_there}
@@ -119,6 +119,7 @@ module _ (d : Lines) (cq most : ℕ) (v : Verbs) (placed : AllByRecursion (IsPla
       pub match : Match (IsEnd d cq rs) es (take most us)
       pub next : s.from + length es ≡ next_index host
       pub reads : ReadsNext host
+      pub shows : Shows host seen 0 (produced (l.completions cq))
       pub long : length rs ≡ length (completing d cq)
       pub none : (place : ℕ) → (retirer_in rs place).asked ≡ None
 
@@ -138,6 +139,7 @@ module _ (d : Lines) (cq most : ℕ) (v : Verbs) (placed : AllByRecursion (IsPla
           low = omega (arith, s.low);
           unpolled = subst (λ (cs : List Cqe). Match (IsCompletion l) cs (drop (length xs) us)) further there;
           reads = h.reads;
+          shows = h.shows;
           poll = (h.some, h.taken_some, pending_all rs es (take most us) taken_placed h.match);
           retirers = h.long;
           asked = λ place. asks_nothing taken empty es place (retirer_in rs place).asked (h.none place);

@@ -12,6 +12,7 @@ use Rattle.verbs_types.specs.declared.declaration.Lines.{Lines}
 use Rattle.verbs_types.specs.declared.entry.What.{What}
 use Rattle.verbs_types.specs.declared.entry.What.TheVariants.{Post, PostFull}
 use Rattle.verbs_types.specs.declared.request.Item.{Item}
+use Rattle.actor_map.specs.Notes.{IsServed, with_seen}
 use Rattle.verbs_rules.specs.Answered.{Due, Posting, Accepting, Answers, MayAnswer, left_by, after_answer, due_by}
 use Rattle.verbs_rules.specs.Family.{put}
 use Rattle.verbs_rules.specs.Rows as rows
@@ -34,7 +35,7 @@ use Rattle.provider_post.specs.Rule.{PostRule, post_side_says, post_side_poster,
 use Rattle.actor_rules.specs.Owners.{poster_of}
 use Rattle.actor_rules.specs.Thread.{Thread, queue_place}
 use Rattle.actor_rules.specs.Family.{put_number}
-use Rattle.actor_rules.specs.Posting.{MayPost, after_post, calls_after_post, post_now, post_says}
+use Rattle.actor_rules.specs.Posting.{MayPost, after_post, calls_after_post, post_now, post_says, post_sees}
 use Rattle.actor_rules.specs.Actors.{Actors, by, posted_with}
 use Rattle.actor_rules.specs.Dues.{dues_at, post_dues}
 use Rattle.verbs_rules.specs.Proper as proper
@@ -228,18 +229,22 @@ module _ (d : Lines) (programs : List (List Call)) (total : Bounds) (map : IsMap
   call_is_over : ends place c next ≡ true → post_side_call place rule x.entry ≡ None
   call_is_over is = ap (λ (b : Bool). if b then None else Some next) is
 
+  -- the tail that was loaded last
+  abbrev pub sees : ℕ
+  sees = post_sees d s queue (length items) x.entry
+
   -- all actors after the operation
   abbrev pub actors_after : Actors
   actors_after = record { adapter = w.adapter; threads = put_number w.threads (suc t) (after_post d s queue items x.entry rest); posted = posted_with w.posted (post_says d s queue items x.entry) }
 
   abbrev pub Result : Type 0
-  Result = Goes d programs total (after_entry m x.entry) actors_after r (option_map (by (suc t)) (post_says d s queue items x.entry))
+  Result = Goes d programs total (after_entry m x.entry) actors_after r sees (option_map (by (suc t)) (post_says d s queue items x.entry))
 
   conclude : (posting' : Option post.Call) (what : Option What) → post_side_call place rule x.entry ≡ posting' → post_says d s queue items x.entry ≡ what
-      → Goes d programs total (after_entry m x.entry) (actors (thread_with posting' (calls_after_post posting' s.calls rest)) (posted_with w.posted what)) r (option_map (by (suc t)) what) → Result
+      → Goes d programs total (after_entry m x.entry) (actors (thread_with posting' (calls_after_post posting' s.calls rest)) (posted_with w.posted what)) r sees (option_map (by (suc t)) what) → Result
   conclude posting' what call_is says_is g =
-      subst (λ (o : Option post.Call). Goes d programs total (after_entry m x.entry) (actors (thread_with o (calls_after_post o s.calls rest)) (posted_with w.posted (post_says d s queue items x.entry))) r (option_map (by (suc t)) (post_says d s queue items x.entry))) (sym call_is)
-      (subst (λ (o : Option What). Goes d programs total (after_entry m x.entry) (actors (thread_with posting' (calls_after_post posting' s.calls rest)) (posted_with w.posted o)) r (option_map (by (suc t)) o)) (sym says_is) g)
+      subst (λ (o : Option post.Call). Goes d programs total (after_entry m x.entry) (actors (thread_with o (calls_after_post o s.calls rest)) (posted_with w.posted (post_says d s queue items x.entry))) r sees (option_map (by (suc t)) (post_says d s queue items x.entry))) (sym call_is)
+      (subst (λ (o : Option What). Goes d programs total (after_entry m x.entry) (actors (thread_with posting' (calls_after_post posting' s.calls rest)) (posted_with w.posted o)) r sees (option_map (by (suc t)) o)) (sym says_is) g)
 
   says_of : (event : Option counted.WqEvent) → said ≡ event → post_says d s queue items x.entry ≡ entry_told queue items c (told_of event)
   says_of event is = ap (λ (ev : Option counted.WqEvent). entry_told queue items c (told_of ev)) is
@@ -344,10 +349,11 @@ module _ (d : Lines) (programs : List (List Call)) (total : Bounds) (map : IsMap
     dues_there : (k : ℕ) → k ≢ t → dues_at (dues_after (left_by head what ++ more)) (suc k) ≡ dues_at holds.dues (suc k)
     dues_there k differ = get_or-set_other holds.dues t k (left_by head what ++ more) [] differ
 
-    may_turn : MayStep v (by (suc t) what) → Answers head what → MayTurn r (by (suc t) what)
-    may_turn legal answers = record {
+    may_turn : MayStep v (by (suc t) what) → Answers head what → IsServed v (with_seen sees (by (suc t) what)) → MayTurn r (with_seen sees (by (suc t) what))
+    may_turn legal answers serves = record {
       legal = legal;
       due = subst (λ (owed : ℕ → List Due). MayAnswer (owed (suc t)) what) (sym holds.owed) (subst (λ (ds : List Due). MayAnswer ds what) (sym owes) answers);
+      serves = serves;
     }
 
   -- what the abstract state makes of an entry, where its thread owes this after it
@@ -366,7 +372,7 @@ module _ (d : Lines) (programs : List (List Call)) (total : Bounds) (map : IsMap
 
   -- Refuses: the queue is full
   module _ (head tail : ℕ) (is : said ≡ Some (counted.Full head tail)) (more : is_written c ≡ false) (ready : poster'.stage ≡ Ready)
-      (makes : Makes (PostFull queue c.accepted head tail) (refused_left ++ flat_map due_by rest)) where
+      (makes : Makes (PostFull queue c.accepted head tail) (refused_left ++ flat_map due_by rest)) (serves : IsServed v (with_seen sees (by (suc t) (PostFull queue c.accepted head tail)))) where
     o : IsOpen c
     o = is_open (length items) (s.posters queue) c posting more
 
@@ -379,9 +385,9 @@ module _ (d : Lines) (programs : List (List Call)) (total : Bounds) (map : IsMap
     ends_is : ends place c next ≡ (c.accepted == 0)
     ends_is = ap (λ (k : post.Call). ends place c k) (next_is (Some (counted.Full head tail)) is) ∙ ends_refused place c call' o.recorded o.recorded refl
 
-    goes_full : (posting' : Option post.Call) (calls : List Call) → Made posting' calls q (v.posted queue) (w.posted queue) (dues_after (refused_left ++ flat_map due_by rest)) → Goes d programs total (after_entry m x.entry) (actors (thread_with posting' calls) w.posted) r (Some (by (suc t) what))
+    goes_full : (posting' : Option post.Call) (calls : List Call) → Made posting' calls q (v.posted queue) (w.posted queue) (dues_after (refused_left ++ flat_map due_by rest)) → Goes d programs total (after_entry m x.entry) (actors (thread_with posting' calls) w.posted) r sees (Some (by (suc t) what))
     goes_full posting' calls made = (
-      may_turn what (Posting queue items) (flat_map due_by rest) (open_dues o) makes.legal (refl, omega (arith, o.more, posting.count)),
+      may_turn what (Posting queue items) (flat_map due_by rest) (open_dues o) makes.legal (refl, omega (arith, o.more, posting.count)) serves,
       record {
         dues = dues_after (refused_left ++ flat_map due_by rest);
         owed = owed_after what (Posting queue items) (flat_map due_by rest) (open_dues o);
@@ -430,7 +436,7 @@ module _ (d : Lines) (programs : List (List Call)) (total : Bounds) (map : IsMap
 
   module _ (is : said ≡ Some counted.Rang) (all : is_written c ≡ true) (waits : c.recorded ≡ false) (stage : poster'.stage ≡ (if is_send place then Ringing else Ready))
       (head : Due) (owes : dues_at holds.dues (suc t) ≡ head ∷ flat_map due_by rest) (answers : Answers head (Post queue rung_items)) (makes : Makes (Post queue rung_items) (left_by head (Post queue rung_items) ++ flat_map due_by rest))
-      (left : left_by head (Post queue rung_items) ≡ []) where
+      (left : left_by head (Post queue rung_items) ≡ []) (serves : IsServed v (with_seen sees (by (suc t) (Post queue rung_items)))) where
     abbrev posts : What
     posts = Post queue rung_items
 
@@ -471,10 +477,10 @@ module _ (d : Lines) (programs : List (List Call)) (total : Bounds) (map : IsMap
         }
 
     goes_rung : (posting' : Option post.Call) (calls : List Call) → ((other : Queue) → other ≢ queue → written_in other posting' calls ≡ []) → written_in queue posting' calls ≡ [] → ThreadStands d programs (suc t) (thread_with posting' calls) (dues_at rung_dues (suc t))
-        → Goes d programs total (after_entry m x.entry) (actors (thread_with posting' calls) told) r (Some (by (suc t) posts))
+        → Goes d programs total (after_entry m x.entry) (actors (thread_with posting' calls) told) r sees (Some (by (suc t) posts))
     goes_rung posting' calls silent_now nothing own =
         let was = stands.bare.sound.declared in (
-          may_turn posts head (flat_map due_by rest) owes makes.legal answers,
+          may_turn posts head (flat_map due_by rest) owes makes.legal answers serves,
           record {
             dues = rung_dues;
             owed = owed_after posts head (flat_map due_by rest) owes;
@@ -560,18 +566,38 @@ module _ (d : Lines) (programs : List (List Call)) (total : Bounds) (map : IsMap
     part = λ waits owes. part_goes d (length d.qps) total v holds.dues t rung_items (flat_map due_by rest) stands.bare.sound.bounded queue lives (owes_first (Accepting queue rung_items) (flat_map due_by rest) owes) (can_post waits);
   }
 
+  -- What was seen serves
+
+  -- a tail that was loaded at a full queue is the state's
+  full_serves : (head tail : ℕ) → said ≡ Some (counted.Full head tail) → IsServed v (with_seen sees (by (suc t) (PostFull queue c.accepted head tail)))
+  full_serves head tail is =
+      let g = goes_with (Some (counted.Full head tail)) is in
+      let old = stands.bare.state.queues queue lives in
+      omega (arith, g.1.poster.least, g.1.poster.room, g.1.poster.count, g.0.head_is, g.0.tail_is, g.0.full, old.retired)
+
+  -- a tail that was loaded before leaves room for all that was posted since
+  rung_serves : said ≡ Some counted.Rang → c.recorded ≡ false → IsServed v (with_seen sees (by (suc t) (Post queue rung_items)))
+  rung_serves is waits =
+      let g = goes_with (Some counted.Rang) is in
+      let old = stands.bare.state.queues queue lives in
+      let some_long : length rung_items ≡ c.accepted = length-take c.accepted items ∙ min_is c.accepted (length items) (omega (arith, posting.some, posting.count)) in
+      record {
+        least = omega (arith, g.1.poster.least, old.retired);
+        enough = omega (arith, g.1.poster.room, g.1.poster.count, long_now waits, some_long, old.room);
+      }
+
   -- an operation of a call to post keeps what holds
   pub post_goes : Result
   post_goes = by outcome
     where
       by_refused : said ≡ Some counted.Rang → is_written c ≡ true → c.recorded ≡ false → poster'.stage ≡ (if is_send place then Ringing else Ready) → (b : Bool) → is_some c.refused ≡ b → Result
-      by_refused is all waits stage true refused = rings is all waits stage (Accepting queue rung_items) (rung_owes waits true refused) (refl, refl) (steps.part waits (rung_owes waits true refused)) refl
+      by_refused is all waits stage true refused = rings is all waits stage (Accepting queue rung_items) (rung_owes waits true refused) (refl, refl) (steps.part waits (rung_owes waits true refused)) refl (rung_serves is waits)
       by_refused is all waits stage false not_refused =
-          rings is all waits stage (Posting queue items) (rung_owes waits false not_refused) (refl, written_whole all not_refused) (steps.whole waits (written_whole all not_refused) (rung_owes waits false not_refused)) refl
+          rings is all waits stage (Posting queue items) (rung_owes waits false not_refused) (refl, written_whole all not_refused) (steps.whole waits (written_whole all not_refused) (rung_owes waits false not_refused)) refl (rung_serves is waits)
 
       by : Outcome place c poster'.stage said → Result
       by (GoesOn is more) = stays is more
       by (Writes words id is more ready) = writes words id is more ready
-      by (Refuses head tail is more ready) = refuses head tail is more ready (steps.full head tail (is_open (length items) (s.posters queue) c posting more) (goes_with (Some (counted.Full head tail)) is).0)
+      by (Refuses head tail is more ready) = refuses head tail is more ready (steps.full head tail (is_open (length items) (s.posters queue) c posting more) (goes_with (Some (counted.Full head tail)) is).0) (full_serves head tail is)
       by (Rings is all waits stage) = by_refused is all waits stage (is_some c.refused) refl
       by (Registers is all recorded ready) = registers is recorded ready

@@ -145,6 +145,7 @@ module _ (d : Lines) (programs : List (List Call)) where
         low = omega arith;
         unpolled = none_since ((cq_line d cq).start - (cq_line d cq).start);
         reads = tt;
+        shows = record { least = omega arith; enough = λ holds. absurd (omega (arith, holds)); reading = tt };
         poll = tt;
         retirers = length-map (completing d cq) (λ (qp : ℕ). fresh_finder.retirer);
         asked = λ place. subst (λ (r : Retirer). AskedFor Idle place r.asked) (sym (fresh_retirers (completing d cq) place)) tt;

@@ -12,13 +12,14 @@ use Rattle.verbs_types.specs.declared.request.Item.{Item}
 use Rattle.verbs_types.specs.declared.request.Item.TheVariants.{Request as TheRequest, Receive as TheReceive}
 use Rattle.verbs_rules.specs.Family.{put}
 use Rattle.verbs_rules.specs.Same.{same_queue}
+use Rattle.actor_map.specs.Notes.{Told, with_seen}
 use Rattle.object_places.specs.Objects.{Mark}
 use Rattle.provider_poll.specs.Completion.{completion_of}
 use Rattle.device_engine.specs.State.{AdapterRule, fresh_adapter}
 use Rattle.device_engine.specs.Event.{AdapterEvent, Fetched, Published}
-use Rattle.device_engine.specs.Rule.{adapter_mark, MayAdapt, after_adapt, adapter_says}
+use Rattle.device_engine.specs.Rule.{adapter_mark, MayAdapt, after_adapt, adapter_says, adapter_sees}
 use Rattle.actor_rules.specs.Thread.{Thread, fresh_thread}
-use Rattle.actor_rules.specs.Calls.{MayThread, after_thread, thread_says}
+use Rattle.actor_rules.specs.Calls.{MayThread, after_thread, thread_says, thread_sees}
 use Rattle.actor_rules.specs.Family.{put_number}
 
 pub record Actors : Type 0 where
@@ -57,6 +58,15 @@ by actor what = record { actor = actor; what = what }
 
 abbrev pub says : Lines → Actors → Marked Mark → Option Entry
 says d w x = option_map (by x.entry.actor) (what_of d w x.entry.actor x)
+
+-- the count of another actor that its actor has seen by then
+abbrev pub sees_of : Lines → Actors → ℕ → Marked Mark → ℕ
+sees_of d w zero x = adapter_sees w.adapter x.entry
+sees_of d w (suc t) x = thread_sees d (w.threads (suc t)) x
+
+-- what it says, with what was seen
+abbrev pub tells : Lines → Actors → Marked Mark → Option Told
+tells d w x = option_map (with_seen (sees_of d w x.entry.actor x)) (says d w x)
 
 abbrev pub posted_with : (Queue → List Item) → Option What → Queue → List Item
 posted_with posted (Some (Post queue items)) = put same_queue posted queue (posted queue ++ items)

@@ -10,10 +10,11 @@ use Rattle.verbs_types.specs.declared.entry.Entry.{Entry}
 use Rattle.verbs_rules.specs.Start.{start}
 use Rattle.verbs_rules.specs.Answered.{IsAnswered, own_entries}
 use Rattle.verbs_rules.specs.Legal.{IsLegal}
+use Rattle.actor_map.specs.Notes.{Told, AllServe}
 use Rattle.actor_map.specs.Start.{start_words}
 use Rattle.object_places.specs.Objects.{Mark}
 use Rattle.actor_rules.specs.Thread.{program_of}
-use Rattle.actor_rules.specs.Actors.{Actors, fresh_actors, after, says}
+use Rattle.actor_rules.specs.Actors.{Actors, fresh_actors, after, says, tells}
 use Rattle.actor_rules.specs.Roles.{Role, turn_role, alone_role, known_as, MayAs, next_as}
 
 -- the operations of one actor, in order
@@ -23,6 +24,10 @@ own actor trace = filter (λ x. x.entry.actor == actor) trace
 -- what the marked operations say, in order
 abbrev pub history : Lines → List (List Call) → List (Marked Mark) → List Entry
 history d programs trace = spelled (after d) (says d) (fresh_actors d programs) trace
+
+-- the same with what each maker saw
+abbrev pub told : Lines → List (List Call) → List (Marked Mark) → List Told
+told d programs trace = spelled (after d) (tells d) (fresh_actors d programs) trace
 
 -- The phases of a run: it opens, the actors take turns, and it closes.
 pub record Phases : Type 0 where
@@ -57,3 +62,8 @@ pub record IsRun (d : Lines) (programs : List (List Call)) (phases : Phases) : T
 pub record IsHistory (d : Lines) (programs : List (List Call)) (entries : List Entry) : Type 0 where
   pub legal : IsLegal (start d) entries
   pub answered : (t : ℕ) → IsAnswered (program_of programs (suc t)) (own_entries (suc t) entries)
+
+-- What a run spells is such a history, and what each maker saw serves for its entry.
+pub record IsWoven (d : Lines) (programs : List (List Call)) (trace : List (Marked Mark)) : Type 0 where
+  pub history : IsHistory d programs (history d programs trace)
+  pub serves : AllServe (start d) (told d programs trace)

@@ -1,5 +1,5 @@
 -- From one operation to every one of a run.
-use Rattle.std.proofs.Common.{subst, List, [], ◌∷◌, ◌++◌, Option, None, Some}
+use Rattle.std.proofs.Common.{ℕ, subst, List, [], ◌∷◌, ◌++◌, Option, None, Some}
 use Rattle.std.specs.List.{fold}
 use Rattle.bus_core.specs.Follow.{Follows}
 use Rattle.bus_core.specs.Mark.{Marked, entries}
@@ -13,7 +13,7 @@ use Rattle.verbs_rules.specs.Running.{Running, after_turn}
 use Rattle.actor_map.specs.Start.{start_words}
 use Rattle.object_places.specs.Apart.{ArePlaced, AreApart, AreAtStart}
 use Rattle.object_places.specs.Objects.{Mark}
-use Rattle.actor_rules.specs.Actors.{Actors, fresh_actors, after, says}
+use Rattle.actor_rules.specs.Actors.{Actors, fresh_actors, after, says, sees_of}
 use Rattle.actor_rules.specs.Roles.{MayAny}
 use Rattle.actor_rules.specs.Dues.{dues_at}
 use Rattle.actor_rules.specs.Ready.{AreReady, first_dues}
@@ -27,14 +27,14 @@ use Rattle.marked_stores.proofs.Actors.{told}
 
 module _ (d : Lines) (programs : List (List Call)) (bounds : Bounds) (map_ok : IsMapped d) where
   -- whatever an operation says, what holds goes on
-  goes_on : (m : Memory) (w : Actors) (r : Running) (said : Option Entry) → Goes d programs bounds m w r said → (s : Running) × Holds d programs bounds m w s
-  goes_on m w r None g = (r, g)
-  goes_on m w r (Some e) g = (after_turn r e, g.1)
+  goes_on : (m : Memory) (w : Actors) (r : Running) (seen : ℕ) (said : Option Entry) → Goes d programs bounds m w r seen said → (s : Running) × Holds d programs bounds m w s
+  goes_on m w r seen None g = (r, g)
+  goes_on m w r seen (Some e) g = (after_turn r e, g.1)
 
   all_told : (trace : List (Marked Mark)) (m : Memory) (w : Actors) (r : Running) → Holds d programs bounds m w r → IsConsistent m (entries trace) → Follows (MayAny d) (after d) w trace → Follows (SaysEntry d) (after d) w trace
   all_told [] m w r holds consistent keeps = tt
   all_told (x ∷ trace) m w r holds consistent keeps =
-      let next = goes_on (after_entry m x.entry) (after d w x) r (says d w x) (step d programs bounds map_ok m w r x holds consistent.0 keeps.0) in
+      let next = goes_on (after_entry m x.entry) (after d w x) r (sees_of d w x.entry.actor x) (says d w x) (step d programs bounds map_ok m w r x holds consistent.0 keeps.0) in
       (told d programs bounds map_ok m w r x holds keeps.0, all_told trace (after_entry m x.entry) (after d w x) next.0 next.1 consistent.1 keeps.1)
 
 -- the item after those before it

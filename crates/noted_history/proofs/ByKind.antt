@@ -12,7 +12,7 @@ use Rattle.verbs_rules.specs.Step.{MayStep}
 use Rattle.verbs_laws.proofs.Failing.{IsHost, passed}
 use Rattle.verbs_laws.proofs.Facts.{MayPost, MayPost_by_step, MayPostFull, MayPostFull_by_step, MayPoll, MayPoll_by_step, MayPublish, MayPublish_by_step}
 use Rattle.actor_map.specs.declared.note.TheConstants.{POST, POST_FULL, POLL, RETIRE, ACK, FETCH}
-use Rattle.actor_map.specs.Notes.{queue_number, note_of}
+use Rattle.actor_map.specs.Notes.{Serves, queue_number, note_of}
 
 kind_is : {note note' : Note} → note ≡ note' → note.kind ≡ note'.kind
 kind_is is = ap (λ (n : Note). n.kind) is
@@ -43,25 +43,25 @@ post_by_kind v note actor what seen is kind may = absurd (omega (arith, kind_is 
 
 pub record IsFull (v : Verbs) (note : Note) (actor : ℕ) (what : What) : Type 0 where
   pub queue : Queue
-  pub tail : ℕ
-  pub what_is : what ≡ PostFull queue note.a note.b tail
+  pub what_is : what ≡ PostFull queue note.a note.b note.c
   pub object : note.object ≡ queue_number queue
-  pub may : MayPostFull v actor queue note.a note.b tail
+  pub may : MayPostFull v actor queue note.a note.b note.c
 
-full_parts : (v : Verbs) (note : Note) (actor : ℕ) (queue : Queue) (pending head tail : ℕ) → note.a ≡ pending → note.b ≡ head → note.object ≡ queue_number queue → MayPostFull v actor queue pending head tail → IsFull v note actor (PostFull queue pending head tail)
-full_parts v note actor queue pending head tail a b object may =
+full_parts : (v : Verbs) (note : Note) (actor : ℕ) (queue : Queue) (pending head tail : ℕ) → note.a ≡ pending → note.b ≡ head → note.c ≡ tail → note.object ≡ queue_number queue → MayPostFull v actor queue pending head tail → IsFull v note actor (PostFull queue pending head tail)
+full_parts v note actor queue pending head tail a b c object may =
     record {
       queue = queue;
-      tail = tail;
-      what_is = ap (λ n. PostFull queue n head tail) (sym a) ∙ ap (λ n. PostFull queue note.a n tail) (sym b);
+      what_is = λ i. PostFull queue (sym a i) (sym b i) (sym c i);
       object = object;
-      may = subst (λ n. MayPostFull v actor queue note.a n tail) (sym b) (subst (λ n. MayPostFull v actor queue n head tail) (sym a) may);
+      may = coe 1 0 (i. MayPostFull v actor queue (a i) (b i) (c i)) may;
     }
 
-pub full_by_kind : (v : Verbs) (note : Note) (actor : ℕ) (what : What) (seen : ℕ) → note ≡ note_of what seen → note.kind ≡ POST_FULL → MayStep v (record { actor = actor; what = what }) → IsFull v note actor what
-full_by_kind v note actor (PostFull queue pending head tail) seen is kind may =
-    full_parts v note actor queue pending head tail (a_is is) (ap (λ (n : Note). n.b) is) (object_is is) (MayPostFull_by_step v actor queue pending head tail may)
-full_by_kind v note actor what seen is kind may = absurd (omega (arith, kind_is is, kind))
+-- the tail that was seen is that of the state
+pub full_by_kind : (v : Verbs) (note : Note) (actor : ℕ) (what : What) (seen : ℕ) → note ≡ note_of what seen → note.kind ≡ POST_FULL → MayStep v (record { actor = actor; what = what }) → Serves v what seen → IsFull v note actor what
+full_by_kind v note actor (PostFull queue pending head tail) seen is kind may serves =
+    let full = MayPostFull_by_step v actor queue pending head tail may in
+    full_parts v note actor queue pending head tail (a_is is) (ap (λ (n : Note). n.b) is) (ap (λ (n : Note). n.c) is ∙ (serves ∙ sym full.retired)) (object_is is) full
+full_by_kind v note actor what seen is kind may serves = absurd (omega (arith, kind_is is, kind))
 
 pub record IsPoll (v : Verbs) (note : Note) (actor : ℕ) (what : What) : Type 0 where
   pub completions : List Completion

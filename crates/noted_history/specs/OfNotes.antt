@@ -1,12 +1,11 @@
 -- The history that the notes of turns tell.
-use Rattle.std.specs.Prelude.{ℕ, suc, ◌≡◌, List, [], ◌∷◌, Option, None, Some, filter_map, slice_index_or}
+use Rattle.std.specs.Prelude.{ℕ, suc, ◌≡◌, List, [], Option, None, Some, map, filter_map, slice_index_or}
 use Rattle.bus_core.specs.declared.turn.Note.{Note}
 use Rattle.verbs_types.specs.declared.call.Call.{Call}
-use Rattle.verbs_types.specs.declared.entry.Entry.{Entry}
 use Rattle.verbs_rules.specs.Answered.{IsAnswered, own_entries}
 use Rattle.verbs_rules.specs.Legal.{IsLegal}
 use Rattle.verbs_rules.specs.State.{Verbs}
-use Rattle.actor_map.specs.Notes.{note_of}
+use Rattle.actor_map.specs.Notes.{Told, AllServe, entries_of, note_told}
 use Rattle.noted_history.specs.declared.log.TurnRecord.{TurnRecord}
 use Rattle.noted_history.specs.declared.log.TurnResult.{TurnResult}
 use Rattle.noted_history.specs.declared.log.TurnResult.TheVariants.{Nothing, Operation, Entry as TheEntry}
@@ -26,19 +25,13 @@ note_by actor (TheEntry note) = Some (record { actor = actor; note = note })
 abbrev pub noted : List TurnRecord → List Noted
 noted log = filter_map (λ (t : TurnRecord). note_by t.actor t.made) log
 
--- a note of the entry, whose maker saw some count of another actor
-pub record IsNoteOf (n : Noted) (e : Entry) : Type 0 where
-  pub by : n.actor ≡ e.actor
-  pub seen : ℕ
-  pub note_is : n.note ≡ note_of e.what seen
+-- the note of an entry with what its maker saw
+abbrev pub noted_of : Told → Noted
+noted_of t = record { actor = t.entry.actor; note = note_told t }
 
-abbrev pub AreNotes : List Noted → List Entry → Type 0
-AreNotes [] [] = Unit {0}
-AreNotes (n ∷ ns) (e ∷ es) = IsNoteOf n e × AreNotes ns es
-AreNotes _ _ = ⊥
-
--- A history of these programs that is legal from here on, and that these turns note. Thread t runs the program at t - 1.
-pub record HasNotes (v : Verbs) (programs : List (List Call)) (log : List TurnRecord) (history : List Entry) : Type 0 where
-  pub legal : IsLegal v history
-  pub answered : (t : ℕ) → IsAnswered (slice_index_or programs t []) (own_entries (suc t) history)
-  pub notes : AreNotes (noted log) history
+-- A history of these programs that is legal from here on, with what the makers of its entries saw, which serves for them, and exactly these turns note it. Thread t runs the program at t - 1.
+pub record HasNotes (v : Verbs) (programs : List (List Call)) (log : List TurnRecord) (told : List Told) : Type 0 where
+  pub legal : IsLegal v (entries_of told)
+  pub answered : (t : ℕ) → IsAnswered (slice_index_or programs t []) (own_entries (suc t) (entries_of told))
+  pub serves : AllServe v told
+  pub notes : noted log ≡ map noted_of told

@@ -3,14 +3,14 @@ use Rattle.std.specs.Prelude.{ℕ, suc, ◌≡◌, ◌≢◌, List, [], length, 
 use Rattle.verbs_types.specs.declared.call.Call.{Call}
 use Rattle.verbs_types.specs.declared.entry.Entry.{Entry}
 use Rattle.verbs_types.specs.declared.entry.What.{What}
-use Rattle.verbs_types.specs.declared.entry.What.TheVariants.{PostFull}
 use Rattle.verbs_rules.specs.Answered.{Due, MayAnswer, after_answer}
 use Rattle.verbs_rules.specs.Step.{MayStep, after_entry}
 use Rattle.verbs_model.specs.Tables.{state_of}
+use Rattle.actor_map.specs.Notes.{Told, IsServed}
 use Rattle.noted_history.specs.declared.posting.Posting.{Posting}
 use Rattle.noted_history.specs.declared.teller.Teller.{Teller}
 use Rattle.noted_history.specs.Behind.{IsBehind}
-use Rattle.noted_history.specs.OfNotes.{Noted, IsNoteOf}
+use Rattle.noted_history.specs.OfNotes.{Noted, noted_of}
 
 -- how many calls of a thread are behind; 0 for a number that is no thread's
 abbrev pub behind_of : List Posting → ℕ → ℕ
@@ -26,17 +26,18 @@ pub record Owes (programs : List (List Call)) (postings : List Posting) (thread 
   pub may_owe : MayOwe programs postings thread dues
   pub answers : MayAnswer dues what
 
--- The entry has a step, the note is one of it, and its thread owes it.
-pub record Tells (t : Teller) (programs : List (List Call)) (n : Noted) (e : Entry) : Type 0 where
-  pub may : MayStep (state_of t.state) e
-  pub noted : IsNoteOf n e
-  pub owed : (thread : ℕ) → e.actor ≡ suc thread → Owes programs t.postings.items thread e.what
+-- The entry has a step for which what was seen serves, the note is the one of both, and its thread owes it.
+pub record Tells (t : Teller) (programs : List (List Call)) (n : Noted) (told : Told) : Type 0 where
+  pub may : MayStep (state_of t.state) told.entry
+  pub serves : IsServed (state_of t.state) told
+  pub noted : n ≡ noted_of told
+  pub owed : (thread : ℕ) → told.entry.actor ≡ suc thread → Owes programs t.postings.items thread told.entry.what
 
 -- the note tells some entry
 pub record CanTell (t : Teller) (programs : List (List Call)) (n : Noted) : Type 0 where
   pub threads : length t.postings.items ≡ length programs
-  pub entry : Entry
-  pub tells : Tells t programs n entry
+  pub told : Told
+  pub tells : Tells t programs n told
 
 -- The entry's thread may owe what the entry leaves, and every other thread what it did.
 pub record MovesOn (programs : List (List Call)) (old new : List Posting) (e : Entry) : Type 0 where
@@ -44,14 +45,9 @@ pub record MovesOn (programs : List (List Call)) (old new : List Posting) (e : E
   pub own : (thread : ℕ) (dues : List Due) → e.actor ≡ suc thread → MayOwe programs old thread dues → MayAnswer dues e.what → MayOwe programs new thread (after_answer dues e.what)
   pub others : (thread : ℕ) → e.actor ≢ suc thread → behind_of new thread ≡ behind_of old thread
 
--- the same but for the tail of a full queue, of which a note may have another count
-abbrev pub IsSameButTail : What → What → Type 0
-IsSameButTail (PostFull queue pending head tail) (PostFull q p h other) = (queue ≡ q) × (pending ≡ p) × (head ≡ h)
-IsSameButTail what other = what ≡ other
-
 -- what the entry says was told
 pub record Says (old new : Teller) (programs : List (List Call)) (e : Entry) (what : What) : Type 0 where
-  pub what_is : IsSameButTail what e.what
+  pub what_is : what ≡ e.what
   pub same_state : new.state ≡ old.state
   pub moves : MovesOn programs old.postings.items new.postings.items e
 

@@ -1,6 +1,6 @@
 //! The history that the notes of a run tell.
 ghost use Rattle.std.specs.Prelude.{◌≡◌, List, IfOk};
-ghost use Rattle.verbs_types.specs.declared.entry.Entry.{Entry};
+ghost use Rattle.actor_map.specs.Notes.{Told, entries_of};
 ghost use Rattle.verbs_model.specs.Tables.{state_of};
 ghost use Rattle.noted_history.specs.OfNotes.{HasNotes};
 
@@ -13,16 +13,15 @@ use verbs_types::{Call, Entry, NoMemory, Sequence};
 /// The entries of these turns, in order, from this state on. A note tells an entry by its numbers; the lists of the
 /// entry are those of the thread's call, of the completions that no poll took, and of what the adapter owes.
 ///
-/// `NoMemory` says that memory ran out, or that a note of a full queue has another count of retired requests than the
-/// queue, so that its entry has no step.
+/// `NoMemory` says that memory ran out, and nothing else.
 pub fn history_of(
     alloc: Global,
     first: Abstract,
     programs: &[Sequence<Call>],
     log: &[TurnRecord],
 ) -> Result<Vec<Entry>, NoMemory>
-    requires told { (h : List Entry) × HasNotes (state_of first) programs.now log.now h }
-    ensures told { (h : List Entry) → HasNotes (state_of first) programs.now log.now h → IfOk result (λ v. v.items ≡ h) }
+    requires told { (h : List Told) × HasNotes (state_of first) programs.now log.now h }
+    ensures told { (h : List Told) → HasNotes (state_of first) programs.now log.now h → IfOk result (λ v. v.items ≡ entries_of h) }
 {
     let mut teller = Teller::new(alloc, first, programs.len())?;
     let mut history = Vec::new(alloc);

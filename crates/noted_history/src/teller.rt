@@ -1,6 +1,6 @@
 //! One entry after another, each told by its note.
 ghost use Rattle.std.specs.Prelude.{◌≡◌, replicate, IfOk};
-ghost use Rattle.verbs_types.specs.declared.entry.Entry.{Entry};
+ghost use Rattle.actor_map.specs.Notes.{Told};
 ghost use Rattle.noted_history.specs.Telling.{CanTell, Tells, Says, Takes};
 
 use crate::numbers::{first_unpolled, owed_completion, queue_of};
@@ -9,7 +9,7 @@ use actor_map::{ACK, FETCH, POLL, POST, POST_FULL, RETIRE};
 use bus_core::Note;
 use std::alloc::Global;
 use verbs_model::Abstract;
-use verbs_types::{Call, Entry, NoMemory, Sequence, What};
+use verbs_types::{Call, CheckFault, Entry, NoMemory, Sequence, What};
 
 /// How far a history is told.
 #[derive(Drop)]
@@ -41,13 +41,14 @@ impl Teller {
         note: Note,
     ) -> Result<Entry, NoMemory>
         requires { CanTell self.old programs.now (record { actor = actor; note = note }) }
-        ensures { (e : Entry) → Tells self.old programs.now (record { actor = actor; note = note }) e → IfOk result (Takes self.old self.new programs.now e) }
+        ensures { (t : Told) → Tells self.old programs.now (record { actor = actor; note = note }) t → IfOk result (Takes self.old self.new programs.now t.entry) }
     {
         let what = self.what(alloc, programs, actor, note)?;
         let entry = Entry { actor, what };
         match self.state.apply(0, &entry) {
             Ok(()) => Ok(entry),
-            Err(_) => Err(NoMemory),
+            Err(CheckFault::NoMemory) => Err(NoMemory),
+            Err(CheckFault::Illegal(_)) => unreachable!(),
         }
     }
 
@@ -60,7 +61,7 @@ impl Teller {
         note: Note,
     ) -> Result<What, NoMemory>
         requires { CanTell self.old programs.now (record { actor = actor; note = note }) }
-        ensures { (e : Entry) → Tells self.old programs.now (record { actor = actor; note = note }) e → IfOk result (Says self.old self.new programs.now e) }
+        ensures { (t : Told) → Tells self.old programs.now (record { actor = actor; note = note }) t → IfOk result (Says self.old self.new programs.now t.entry) }
     {
         match note.kind {
             POST => self.posted(alloc, programs, actor, note),
@@ -102,7 +103,7 @@ impl Teller {
     ) -> Result<What, NoMemory>
         requires told { CanTell self.old programs.now (record { actor = actor; note = note }) }
         requires kind { note.kind ≡ POST }
-        ensures { (e : Entry) → Tells self.old programs.now (record { actor = actor; note = note }) e → IfOk result (Says self.old self.new programs.now e) }
+        ensures { (t : Told) → Tells self.old programs.now (record { actor = actor; note = note }) t → IfOk result (Says self.old self.new programs.now t.entry) }
     {
         let thread = actor as usize - 1;
         let calls = programs[thread].as_slice();
@@ -117,7 +118,7 @@ impl Teller {
     fn refused(&mut self, programs: &[Sequence<Call>], actor: u8, note: Note) -> What
         requires told { CanTell self.old programs.now (record { actor = actor; note = note }) }
         requires kind { note.kind ≡ POST_FULL }
-        ensures { (e : Entry) → Tells self.old programs.now (record { actor = actor; note = note }) e → Says self.old self.new programs.now e result }
+        ensures { (t : Told) → Tells self.old programs.now (record { actor = actor; note = note }) t → Says self.old self.new programs.now t.entry result }
     {
         let thread = actor as usize - 1;
         self.postings[thread].refuse(programs[thread].as_slice(), note.a);

@@ -12,10 +12,11 @@ use Rattle.verbs_rules.specs.State.{Verbs}
 use Rattle.object_places.specs.Objects.{Mark}
 use Rattle.actor_rules.specs.Actors.{fresh_actors}
 use Rattle.actor_rules.specs.Ready.{AreReady}
+use Rattle.actor_map.specs.Notes.{Told, entries_of}
 use Rattle.actor_map.specs.Start.{start_words}
-use Rattle.actor_rules.specs.Run.{Phases, IsRun, IsHistory, whole, turns_alone, history}
+use Rattle.actor_rules.specs.Run.{Phases, IsRun, IsHistory, IsWoven, whole, turns_alone, history, told as told_in}
 use Rattle.actor_rules.proofs.Phases.{whole_is}
-use Rattle.actor_rules.proofs.Woven.{own_keep}
+use Rattle.actor_rules.proofs.Woven.{own_keep, entries_told}
 use Rattle.operation_bounds.specs.Run.{IsBoundedRun}
 use Rattle.marked_stores.specs.Stores.{SayEntries}
 use Rattle.scenario_text.specs.declared.scenario.ScenarioParts.{ScenarioParts}
@@ -31,9 +32,6 @@ use Rattle.world_core.specs.Run.{RunView}
 -- a law of every run of programs that are ready
 abbrev pub LawOf : (Lines → List (List Call) → List (Marked Mark) → Type 0) → Type 0
 LawOf Claim = (d : Lines) (programs : List (List Call)) (bounds : Bounds) (phases : Phases) → AreReady d programs bounds → IsRun d programs phases → Claim d programs (whole phases)
-
-abbrev pub HasLegalHistory : Lines → List (List Call) → List (Marked Mark) → Type 0
-HasLegalHistory d programs trace = IsHistory d programs (history d programs trace)
 
 abbrev pub ReadyLaw : Type 0
 ReadyLaw = (s : ScenarioParts) → CanRun s → IsReady s
@@ -52,22 +50,33 @@ module _ (s : ScenarioParts) (v : RunView) (h : Holds s v) (consistent : IsConsi
   pub by_law : (Claim : Lines → List (List Call) → List (Marked Mark) → Type 0) → LawOf Claim → ReadyLaw → CanRun s → Claim s.lines s.programs h.trace
   by_law Claim law ready can = subst (Claim s.lines s.programs) (whole_is h.trace) (law s.lines s.programs (bounds_of s.lines s.programs) (turns_alone h.trace) (ready s can).law run_is)
 
-  module _ (legal : IsHistory s.lines s.programs (history s.lines s.programs h.trace)) where
-    pub told : (first : Verbs) (programs : List (List Call)) → first ≡ start s.lines → programs ≡ s.programs → HasNotes first programs v.turns (history s.lines s.programs h.trace)
-    told first programs first_is programs_are =
-        subst (λ (u : Verbs). HasNotes u programs v.turns (history s.lines s.programs h.trace)) (sym first_is)
-        (subst (λ (ps : List (List Call)). HasNotes (start s.lines) ps v.turns (history s.lines s.programs h.trace)) (sym programs_are)
-        (record { legal = legal.legal; answered = legal.answered; notes = h.made.notes }))
+  -- what the marked operations tell
+  abbrev pub tale : List Told
+  tale = told_in s.lines s.programs h.trace
 
-    pub outcome_is : (o : Outcome) → IsBoundedRun s.lines s.programs h.trace → SayEntries s.lines s.programs h.trace → o.trace.items ≡ v.bus.trace → o.marks.items ≡ marks_in v.turns → o.history ≡ history s.lines s.programs h.trace → IsOutcome s (map actor_of v.turns) o
+  pub entries_are : entries_of tale ≡ history s.lines s.programs h.trace
+  entries_are = entries_told s.lines (fresh_actors s.lines s.programs) h.trace
+
+  module _ (law : IsWoven s.lines s.programs h.trace) where
+    pub told : (first : Verbs) (programs : List (List Call)) → first ≡ start s.lines → programs ≡ s.programs → HasNotes first programs v.turns tale
+    told first programs first_is programs_are =
+        subst (λ (u : Verbs). HasNotes u programs v.turns tale) (sym first_is)
+        (subst (λ (ps : List (List Call)). HasNotes (start s.lines) ps v.turns tale) (sym programs_are)
+        (record { legal = legal.legal; answered = legal.answered; serves = law.serves; notes = h.made.notes }))
+      where
+        legal : IsHistory s.lines s.programs (entries_of tale)
+        legal = subst (IsHistory s.lines s.programs) (sym entries_are) law.history
+
+    pub outcome_is : (o : Outcome) → IsBoundedRun s.lines s.programs h.trace → SayEntries s.lines s.programs h.trace → o.trace.items ≡ v.bus.trace → o.marks.items ≡ marks_in v.turns → o.history ≡ entries_of tale → IsOutcome s (map actor_of v.turns) o
     outcome_is o bounded says trace marks told_is = record {
       trace = h.trace;
       operations = h.bus.operations ∙ sym trace;
       run = run_is;
       turned = h.made.turned;
-      history_is = told_is;
+      history_is = told_is ∙ entries_are;
       marks_are = marks ∙ h.made.marks;
       bounded = bounded;
       told = says;
-      legal = subst (IsHistory s.lines s.programs) (sym told_is) legal;
+      legal = subst (IsHistory s.lines s.programs) (sym (told_is ∙ entries_are)) law.history;
+      serves = law.serves;
     }

@@ -1,5 +1,5 @@
 -- What the turns so far made, with one more.
-use Rattle.std.proofs.Common.{◌≡◌, ◌∙◌, refl, sym, ap, subst, ℕ, zero, suc, ◌++◌, Bool, true, false, List, [], ◌∷◌, map, append-nil, Option, None, Some, is_some}
+use Rattle.std.proofs.Common.{◌≡◌, ◌∙◌, refl, sym, ap, subst, ℕ, zero, suc, ◌++◌, Bool, true, false, List, [], ◌∷◌, map, append-nil, Option, None, Some, is_some, option_map}
 use Rattle.std.specs.List.{fold, filter_map}
 use Rattle.std.specs.Option.{option_to_list}
 use Rattle.std.proofs.lemmas.List.{map-append}
@@ -11,44 +11,42 @@ use Rattle.bus_core.proofs.Following.{Follows-push}
 use Rattle.bus_core.proofs.Spelling.{spelled-push}
 use Rattle.verbs_types.specs.declared.declaration.Lines.{Lines}
 use Rattle.verbs_types.specs.declared.entry.Entry.{Entry}
-use Rattle.actor_map.specs.Notes.{note_of}
+use Rattle.actor_map.specs.Notes.{Told, note_told, with_seen}
 use Rattle.object_places.specs.Objects.{Mark}
-use Rattle.actor_rules.specs.Actors.{Actors, fresh_actors, after, says}
+use Rattle.actor_rules.specs.Actors.{Actors, fresh_actors, after, says, sees_of, tells}
 use Rattle.actor_rules.specs.Roles.{MayAny}
-use Rattle.actor_rules.specs.Run.{history}
+use Rattle.actor_rules.specs.Run.{told}
 use Rattle.scenario_text.specs.declared.scenario.ScenarioParts.{ScenarioParts}
 use Rattle.noted_history.specs.declared.log.TurnResult.{TurnResult as MadeBy}
 use Rattle.noted_history.specs.declared.log.TurnResult.TheVariants.{Nothing}
 use Rattle.noted_history.specs.declared.log.TurnRecord.{TurnRecord}
 use Rattle.noted_history.specs.Marks.{mark_of, marks_in}
-use Rattle.noted_history.specs.OfNotes.{Noted, note_by, noted, IsNoteOf, AreNotes}
+use Rattle.noted_history.specs.OfNotes.{Noted, note_by, noted, noted_of}
 use Rattle.world_core.specs.Holding.{actors_after, actor_of, MadeTurns}
 use Rattle.world_core.specs.Outcome.{AreTurns, Makes, Passes, marks_of}
 use Rattle.world_core.specs.Run.{made_of, with_turn}
 use Rattle.world_core.proofs.Pushing.{turns_pass, turns_make, marks_push}
 
--- the note is that of what an actor's operation says
-abbrev pub Fits : ℕ → Option Entry → Option Note → Type 0
+-- the note is that of what an actor's operation tells
+abbrev pub Fits : ℕ → Option Told → Option Note → Type 0
 Fits actor None note = note ≡ None
-Fits actor (Some e) note = (actor ≡ e.actor) × (seen : ℕ) × (note ≡ Some (note_of e.what seen))
-
-notes_append : (ns ms : List Noted) (es fs : List Entry) → AreNotes ns es → AreNotes ms fs → AreNotes (ns ++ ms) (es ++ fs)
-notes_append [] ms [] fs front back = back
-notes_append [] ms (e ∷ es) fs front back = absurd front
-notes_append (n ∷ ns) ms [] fs front back = absurd front
-notes_append (n ∷ ns) ms (e ∷ es) fs front back = (front.0, notes_append ns ms es fs front.1 back)
+Fits actor (Some t) note = (actor ≡ t.entry.actor) × (note ≡ Some (note_told t))
 
 -- the notes and the marks of one turn
 abbrev one : ℕ → MadeBy → List TurnRecord
 one actor made = record { actor = actor; made = made } ∷ []
 
-notes_one : (actor : ℕ) (said : Option Entry) (note : Option Note) → Fits actor said note → AreNotes (noted (one actor (made_of note))) (option_to_list said)
-notes_one actor None n fits = subst (λ (o : Option Note). AreNotes (noted (one actor (made_of o))) []) (sym fits) tt
-notes_one actor (Some e) n fits = subst (λ (o : Option Note). AreNotes (noted (one actor (made_of o))) (e ∷ [])) (sym fits.2) (record { by = fits.0; seen = fits.1; note_is = refl }, tt)
+notes_one : (actor : ℕ) (now : Option Told) (note : Option Note) → Fits actor now note → noted (one actor (made_of note)) ≡ map noted_of (option_to_list now)
+notes_one actor None n fits = ap (λ (o : Option Note). noted (one actor (made_of o))) fits
+notes_one actor (Some t) n fits = ap (λ (o : Option Note). noted (one actor (made_of o))) fits.1 ∙ (λ i. record { actor = fits.0 i; note = note_told t } ∷ [])
 
-marks_one : (actor : ℕ) (said : Option Entry) (note : Option Note) → Fits actor said note → marks_in (one actor (made_of note)) ≡ is_some said ∷ []
+told_some : (seen : ℕ) (said : Option Entry) → is_some (option_map (with_seen seen) said) ≡ is_some said
+told_some seen None = refl
+told_some seen (Some e) = refl
+
+marks_one : (actor : ℕ) (said : Option Told) (note : Option Note) → Fits actor said note → marks_in (one actor (made_of note)) ≡ is_some said ∷ []
 marks_one actor None n fits = ap (λ (o : Option Note). marks_in (one actor (made_of o))) fits
-marks_one actor (Some e) n fits = ap (λ (o : Option Note). marks_in (one actor (made_of o))) fits.2
+marks_one actor (Some t) n fits = ap (λ (o : Option Note). marks_in (one actor (made_of o))) fits.1
 
 noted_append : (turns : List TurnRecord) (actor : ℕ) (made : MadeBy) → noted (with_turn turns actor made) ≡ noted turns ++ noted (one actor made)
 noted_append turns actor made = filter_map-append (λ (t : TurnRecord). note_by t.actor t.made) turns (one actor made)
@@ -68,23 +66,24 @@ module _ (s : ScenarioParts) (turns : List TurnRecord) (trace : List (Marked Mar
   made_passes actor passes = record {
     keeps = m.keeps;
     turned = subst (λ (as' : List ℕ). AreTurns s.lines first as' trace) (sym (actors_append turns actor Nothing)) (turns_pass s.lines (map actor_of turns) trace first actor m.turned passes);
-    notes = subst (λ (ns : List Noted). AreNotes ns (history s.lines s.programs trace)) (sym (noted_append turns actor Nothing ∙ append-nil (noted turns))) m.notes;
+    notes = noted_append turns actor Nothing ∙ append-nil (noted turns) ∙ m.notes;
     marks = marks_append turns actor Nothing ∙ append-nil (marks_in turns) ∙ m.marks;
   }
 
   -- a turn that makes the next operation
   pub made_moves : (actor : ℕ) (x : Marked Mark) (note : Option Note) → MayAny s.lines (actors_after s.lines s.programs trace) x → Makes (actors_after s.lines s.programs trace) actor x
-      → Fits actor (says s.lines (actors_after s.lines s.programs trace) x) note → MadeTurns s (with_turn turns actor (made_of note)) (trace ++ x ∷ [])
+      → Fits actor (tells s.lines (actors_after s.lines s.programs trace) x) note → MadeTurns s (with_turn turns actor (made_of note)) (trace ++ x ∷ [])
   made_moves actor x note may makes fits =
       let now : Actors = actors_after s.lines s.programs trace in
-      let said : Option Entry = says s.lines now x in record {
+      let said : Option Told = tells s.lines now x in record {
         keeps = Follows-push (MayAny s.lines) (after s.lines) first trace x m.keeps may;
         turned = subst (λ (as' : List ℕ). AreTurns s.lines first as' (trace ++ x ∷ [])) (sym (actors_append turns actor (made_of note))) (turns_make s.lines (map actor_of turns) trace first actor x m.turned makes);
-        notes = subst (λ (ns : List Noted). AreNotes ns (history s.lines s.programs (trace ++ x ∷ []))) (sym (noted_append turns actor (made_of note)))
-            (subst (λ (es : List Entry). AreNotes (noted turns ++ noted (one actor (made_of note))) es) (sym (spelled-push (MayAny s.lines) (after s.lines) (says s.lines) first trace x))
-            (notes_append (noted turns) (noted (one actor (made_of note))) (history s.lines s.programs trace) (option_to_list said) m.notes (notes_one actor said note fits)));
+        notes = noted_append turns actor (made_of note)
+            ∙ (λ i. m.notes i ++ notes_one actor said note fits i)
+            ∙ sym (map-append noted_of (told s.lines s.programs trace) (option_to_list said))
+            ∙ ap (map noted_of) (sym (spelled-push (MayAny s.lines) (after s.lines) (tells s.lines) first trace x));
         marks = marks_append turns actor (made_of note)
             ∙ ap (λ (bs : List Bool). marks_in turns ++ bs) (marks_one actor said note fits)
-            ∙ ap (λ (bs : List Bool). bs ++ is_some said ∷ []) m.marks
+            ∙ (λ i. m.marks i ++ told_some (sees_of s.lines now x.entry.actor x) (says s.lines now x) i ∷ [])
             ∙ sym (marks_push s.lines trace first x);
       }

@@ -17,7 +17,7 @@ use Rattle.thread_actor.specs.Small.{IsBelow}
 use Rattle.thread_actor.specs.View.{ThreadView, thread_of}
 use Rattle.noted_history.specs.declared.log.TurnRecord.{TurnRecord}
 use Rattle.noted_history.specs.Marks.{marks_in}
-use Rattle.noted_history.specs.OfNotes.{noted, AreNotes}
+use Rattle.noted_history.specs.OfNotes.{noted}
 use Rattle.world_core.specs.Holding.{low_after, actors_after, actor_of, IsAdapter, IsThreadOf, MadeTurns, Stand, Holds}
 use Rattle.world_core.specs.Outcome.{AreTurns}
 use Rattle.world_core.specs.Run.{RunView, CanTurn}
@@ -41,7 +41,7 @@ module _ (s : ScenarioParts) (v : RunView) (can : CanRun s) (grow : CountsGrow) 
   first = fresh_actors s.lines s.programs
 
   none_made : MadeTurns s [] []
-  none_made = record { keeps = tt; turned = tt; notes = tt; marks = refl }
+  none_made = record { keeps = tt; turned = tt; notes = refl; marks = refl }
 
   first_thread : (t : ℕ) (view : ThreadView) → slice_get v.threads t ≡ Some view → IsThreadOf s.lines first 0 (suc t) view
   first_thread t view there =

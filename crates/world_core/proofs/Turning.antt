@@ -10,26 +10,28 @@ use Rattle.bus_core.specs.Plain.{Plain}
 use Rattle.bus_core.proofs.Following.{fold-push}
 use Rattle.verbs_types.specs.declared.call.Call.{Call}
 use Rattle.verbs_types.specs.declared.completion.Queue.{Queue}
+use Rattle.verbs_types.specs.declared.completion.Queue.TheVariants.{Send}
 use Rattle.verbs_types.specs.declared.declaration.Lines.{Lines}
 use Rattle.verbs_types.specs.declared.entry.Entry.{Entry}
 use Rattle.verbs_types.specs.declared.entry.What.{What}
 use Rattle.verbs_types.specs.declared.request.Item.{Item}
-use Rattle.actor_map.specs.Notes.{note_of}
+use Rattle.actor_map.specs.Notes.{Told, note_of, with_seen}
 use Rattle.object_places.specs.Objects.{Mark}
 use Rattle.owner_ring.specs.Consumer.{Consumer, Waiting, Reading}
 use Rattle.device_engine.specs.Counts.{CountsBelow, CountsGrow}
-use Rattle.device_engine.specs.Event.{AdapterEvent, Fetched, Published, notes}
-use Rattle.device_engine.specs.Rule.{adapter_mark, MayAdapt, after_adapt, adapter_says}
+use Rattle.device_engine.specs.Event.{AdapterEvent, Fetched, Published, IsAdapterNote}
+use Rattle.device_engine.specs.Rule.{adapter_mark, MayAdapt, after_adapt, adapter_says, adapter_sees}
 use Rattle.device_engine.specs.State.{AdapterRule}
-use Rattle.device_engine.specs.View.{ScanView, rule_of, seen_of}
-use Rattle.actor_rules.specs.Actors.{Actors, MayAdapter, after, after_by, says, what_of, by, adapter_entry}
+use Rattle.device_engine.specs.View.{ScanView, rule_of}
+use Rattle.provider_poll.specs.Completion.{completion_of}
+use Rattle.actor_rules.specs.Actors.{Actors, MayAdapter, after, after_by, says, what_of, by, id_in, adapter_entry, sees_of, tells}
 use Rattle.actor_rules.specs.Roles.{May, MayAny, Knows, part}
-use Rattle.actor_rules.specs.Calls.{MayThread, after_thread, thread_says}
+use Rattle.actor_rules.specs.Calls.{MayThread, after_thread, thread_says, thread_sees}
 use Rattle.actor_rules.specs.Thread.{Thread}
 use Rattle.actor_rules.proofs.Threading.{put_here, put_there}
 use Rattle.scenario_text.specs.declared.scenario.ScenarioParts.{ScenarioParts}
 use Rattle.thread_actor.specs.Small.{IsPosterBelow, IsHostBelow, IsBelow}
-use Rattle.thread_actor.specs.Turn.{marked, IsNoteOf, seen_in}
+use Rattle.thread_actor.specs.Turn.{marked, IsNoteOf}
 use Rattle.thread_actor.specs.View.{ThreadView, thread_of, calls_left}
 use Rattle.thread_actor.proofs.Places.{set_here, set_there}
 use Rattle.noted_history.specs.declared.log.TurnResult.{TurnResult as MadeBy}
@@ -89,9 +91,9 @@ adapter_stays d w w' turns turns' v le same stands = record {
 actors_more : (s : ScenarioParts) (trace : List (Marked Mark)) (x : Marked Mark) (actor : ℕ) → x.entry.actor ≡ actor → actors_after s.lines s.programs (trace ++ x ∷ []) ≡ after_by s.lines (actors_after s.lines s.programs trace) actor x
 actors_more s trace x actor same = fold-push (after s.lines) _ trace x ∙ ap (λ (k : ℕ). after_by s.lines (actors_after s.lines s.programs trace) k x) same
 
--- what an operation says, made by this actor
-abbrev said_by : Lines → Actors → ℕ → Marked Mark → Option Entry
-said_by d w actor x = option_map (by actor) (what_of d w actor x)
+-- what an operation tells, made by this actor
+abbrev told_by : Lines → Actors → ℕ → Marked Mark → Option Told
+told_by d w actor x = option_map (with_seen (sees_of d w actor x)) (option_map (by actor) (what_of d w actor x))
 
 -- The bus
 
@@ -110,10 +112,10 @@ module _ (s : ScenarioParts) (old new : RunView) (trace : List (Marked Mark)) (a
 
 -- The adapter
 
-adapter_fits : (posted : Queue → List Item) (seen : ℕ → ℕ) (said : Option AdapterEvent) (note : Option Note) → note ≡ notes seen said → Fits 0 (option_map (by 0) (option_map (adapter_entry posted) said)) note
+adapter_fits : (posted : Queue → List Item) (seen : ℕ) (said : Option AdapterEvent) (note : Option Note) → IsAdapterNote said seen note → Fits 0 (option_map (with_seen seen) (option_map (by 0) (option_map (adapter_entry posted) said))) note
 adapter_fits posted seen None n is = is
-adapter_fits posted seen (Some (Fetched qp number)) n is = (refl, number, is)
-adapter_fits posted seen (Some (Published cq completion number index)) n is = (refl, seen cq, is)
+adapter_fits posted seen (Some (Fetched qp number)) n is = (refl, is)
+adapter_fits posted seen (Some (Published cq completion number index)) n is = (refl, is (completion_of completion (id_in (posted (Send completion.qpn)) number)))
 
 module _ (s : ScenarioParts) (old new : RunView) (h : Holds s old) (m : AdapterMoves old new) (grow : CountsGrow) where
   abbrev w : Actors
@@ -128,10 +130,10 @@ module _ (s : ScenarioParts) (old new : RunView) (h : Holds s old) (m : AdapterM
   may : MayAny s.lines w x
   may = subst (λ (k : ℕ). May s.lines k (part k w) x) (sym m.by) (record { mark_is = refl; goes_on = rule_is (λ (d : Lines) (r : AdapterRule). MayAdapt d r m.entry) m.turn.may })
 
-  fits : Fits 0 (says s.lines w x) m.note
-  fits = subst (λ (k : ℕ). Fits 0 (said_by s.lines w k x) m.note) (sym m.by)
-      (adapter_fits w.posted (seen_of new.adapter) (adapter_says s.lines w.adapter m.entry) m.note
-      (rule_is (λ (d : Lines) (r : AdapterRule). m.note ≡ notes (seen_of new.adapter) (adapter_says d r m.entry)) m.turn.note_is))
+  fits : Fits 0 (tells s.lines w x) m.note
+  fits = subst (λ (k : ℕ). Fits 0 (told_by s.lines w k x) m.note) (sym m.by)
+      (adapter_fits w.posted (adapter_sees w.adapter m.entry) (adapter_says s.lines w.adapter m.entry) m.note
+      (rule_is (λ (d : Lines) (r : AdapterRule). IsAdapterNote (adapter_says d r m.entry) (adapter_sees r m.entry) m.note) m.turn.note_is))
 
   now : actors_after s.lines s.programs (h.trace ++ x ∷ []) ≡ after_by s.lines w 0 x
   now = actors_more s h.trace x 0 m.by
@@ -171,9 +173,9 @@ module _ (s : ScenarioParts) (old new : RunView) (h : Holds s old) (m : AdapterM
 
 -- A thread that goes on
 
-thread_fits : (actor : ℕ) (said : Option What) (seen : ℕ) (note : Option Note) → IsNoteOf said seen note → Fits actor (option_map (by actor) said) note
-thread_fits actor None seen n is = is
-thread_fits actor (Some what) seen n is = (refl, seen, is)
+note_fits : (actor : ℕ) (said : Option What) (seen : ℕ) (note : Option Note) → IsNoteOf said seen note → Fits actor (option_map (with_seen seen) (option_map (by actor) said)) note
+note_fits actor None seen n is = is
+note_fits actor (Some what) seen n is = (refl, is)
 
 module _ (s : ScenarioParts) (old new : RunView) (t : ℕ) (h : Holds s old) (m : ThreadMoves old new t) where
   abbrev before_all : Actors
@@ -196,10 +198,10 @@ module _ (s : ScenarioParts) (old new : RunView) (t : ℕ) (h : Holds s old) (m 
   makes : Makes before_all (suc t) y
   makes = record { going = ap (λ (r : Thread). r.ended) (sym stood.rule) ∙ m.going; by = m.by }
 
-  fits_thread : Fits (suc t) (says s.lines before_all y) m.note
-  fits_thread = subst (λ (k : ℕ). Fits (suc t) (said_by s.lines before_all k y) m.note) (sym m.by)
-      (thread_fits (suc t) (thread_says s.lines (before_all.threads (suc t)) y) (seen_in m.after (calls_left m.before)) m.note
-      (thread_is (λ (d : Lines) (r : Thread). IsNoteOf (thread_says d r y) (seen_in m.after (calls_left m.before)) m.note) m.turn.noted))
+  fits_thread : Fits (suc t) (tells s.lines before_all y) m.note
+  fits_thread = subst (λ (k : ℕ). Fits (suc t) (told_by s.lines before_all k y) m.note) (sym m.by)
+      (note_fits (suc t) (thread_says s.lines (before_all.threads (suc t)) y) (thread_sees s.lines (before_all.threads (suc t)) y) m.note
+      (thread_is (λ (d : Lines) (r : Thread). IsNoteOf (thread_says d r y) (thread_sees d r y) m.note) m.turn.noted))
 
   now_all : actors_after s.lines s.programs (h.trace ++ y ∷ []) ≡ after_by s.lines before_all (suc t) y
   now_all = actors_more s h.trace y (suc t) m.by

@@ -12,14 +12,14 @@ use Rattle.device_engine.specs.Counts.{CountsBelow}
 use Rattle.device_engine.specs.View.{ScanView, rule_of}
 use Rattle.actor_rules.specs.Actors.{Actors, fresh_actors, after}
 use Rattle.actor_rules.specs.Roles.{MayAny}
-use Rattle.actor_rules.specs.Run.{history}
+use Rattle.actor_rules.specs.Run.{told}
 use Rattle.scenario_text.specs.declared.scenario.ScenarioParts.{ScenarioParts}
 use Rattle.scenario_text.specs.Limits.{turn_count}
 use Rattle.thread_actor.specs.Small.{IsBelow}
 use Rattle.thread_actor.specs.View.{ThreadView, thread_of}
 use Rattle.noted_history.specs.declared.log.TurnRecord.{TurnRecord}
 use Rattle.noted_history.specs.Marks.{marks_in}
-use Rattle.noted_history.specs.OfNotes.{AreNotes, noted}
+use Rattle.noted_history.specs.OfNotes.{noted, noted_of}
 use Rattle.world_core.specs.Outcome.{AreTurns, marks_of}
 use Rattle.world_core.specs.Run.{RunView}
 
@@ -50,7 +50,7 @@ actor_of t = t.actor
 pub record MadeTurns (s : ScenarioParts) (turns : List TurnRecord) (trace : List (Marked Mark)) : Type 0 where
   pub keeps : Follows (MayAny s.lines) (after s.lines) (fresh_actors s.lines s.programs) trace
   pub turned : AreTurns s.lines (fresh_actors s.lines s.programs) (map actor_of turns) trace
-  pub notes : AreNotes (noted turns) (history s.lines s.programs trace)
+  pub notes : noted turns ≡ map noted_of (told s.lines s.programs trace)
   pub marks : marks_in turns ≡ marks_of s.lines (fresh_actors s.lines s.programs) trace
 
 -- the actors after these operations

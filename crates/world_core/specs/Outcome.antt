@@ -2,10 +2,12 @@
 use Rattle.std.specs.Prelude.{ℕ, zero, suc, ◌≡◌, ◌⊎◌, Bool, false, true, List, [], ◌∷◌, is_some}
 use Rattle.bus_core.specs.Mark.{Marked, entries}
 use Rattle.verbs_types.specs.declared.declaration.Lines.{Lines}
+use Rattle.verbs_rules.specs.Start.{start}
+use Rattle.actor_map.specs.Notes.{AllServe}
 use Rattle.object_places.specs.Objects.{Mark}
 use Rattle.scenario_text.specs.declared.scenario.ScenarioParts.{ScenarioParts}
 use Rattle.actor_rules.specs.Actors.{Actors, fresh_actors, after, says}
-use Rattle.actor_rules.specs.Run.{IsRun, IsHistory, turns_alone, history}
+use Rattle.actor_rules.specs.Run.{IsRun, IsHistory, turns_alone, history, told as told_in}
 use Rattle.operation_bounds.specs.Run.{IsBoundedRun}
 use Rattle.marked_stores.specs.Stores.{SayEntries}
 use Rattle.world_core.specs.declared.outcome.Outcome.{Outcome}
@@ -53,3 +55,5 @@ pub record IsOutcome (s : ScenarioParts) (turns : List ℕ) (o : Outcome) : Type
   pub told : SayEntries s.lines s.programs trace
   -- it is legal, and each thread's entries are those of its calls, each once and in order
   pub legal : IsHistory s.lines s.programs o.history
+  -- and what each entry's maker saw of other actors serves for it
+  pub serves : AllServe (start s.lines) (told_in s.lines s.programs trace)

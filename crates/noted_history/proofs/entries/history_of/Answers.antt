@@ -3,6 +3,7 @@ use Rattle.std.proofs.Common.{◌≡◌, ℕ, ◌+◌, ◌<◌, List, [], ◌∷
 use Rattle.std.proofs.lemmas.List.{length-replicate, drop_more, drop_all}
 use Rattle.verbs_types.specs.declared.call.Call.{Call}
 use Rattle.verbs_types.specs.declared.entry.Entry.{Entry}
+use Rattle.actor_map.specs.Notes.{Told}
 use Rattle.verbs_model.specs.Tables.{state_of}
 use Rattle.noted_history.specs.declared.log.TurnResult.TheVariants.{Nothing}
 use Rattle.noted_history.specs.declared.log.TurnRecord.{TurnRecord}
@@ -27,7 +28,7 @@ loop-turn-init c =
 abbrev turn_at : List TurnRecord → ℕ → TurnRecord
 turn_at log i = get_or log i (record { actor = 0; made = Nothing })
 
-at_turn : (t : Teller) (programs : List (List Call)) (log : List TurnRecord) (i : ℕ) (history h : List Entry) → i < length log → Stands t programs (drop i log) history h → Stands t programs (turn_at log i ∷ drop (i + 1) log) history h
+at_turn : (t : Teller) (programs : List (List Call)) (log : List TurnRecord) (i : ℕ) (history : List Entry) (h : List Told) → i < length log → Stands t programs (drop i log) history h → Stands t programs (turn_at log i ∷ drop (i + 1) log) history h
 at_turn t programs log i history h inside = subst (λ (ts : List TurnRecord). Stands t programs ts history h) (drop_more log i (record { actor = 0; made = Nothing }) inside)
 
 pub loop-turn-preserved-in_default : goal.loop-turn-preserved-in_default
@@ -55,7 +56,7 @@ entry-requires c =
     let h = c.requires.told.0 in
     let stands = at_turn teller programs log i history h c.loop-turn-test.true (c.loop-turn.invariant.1 h c.requires.told.1) in
     let next = next_of teller programs turn (record { actor = turn.actor; note = c.in-Entry.note }) (drop (i + 1) log) history h (ap (note_by turn.actor) c.in-Entry.is) stands in
-    record { threads = c.loop-turn.invariant.0; entry = next.entry; tells = next.tells }
+    record { threads = c.loop-turn.invariant.0; told = next.told; tells = next.tells }
 
 pub loop-turn-preserved : goal.loop-turn-preserved
 loop-turn-preserved c =
@@ -66,9 +67,9 @@ loop-turn-preserved c =
     let history = c.loop-turn.history.items in
     let turn = turn_at log i in
     let n : Noted = record { actor = turn.actor; note = c.in-Entry.note } in
-    let stands : (h : List Entry) → HasNotes (state_of c.args.first) programs log h → Stands teller programs (turn ∷ drop (i + 1) log) history h = λ h told. at_turn teller programs log i history h c.loop-turn-test.true (c.loop-turn.invariant.1 h told) in
-    let next : (h : List Entry) (told : HasNotes (state_of c.args.first) programs log h) → IsNextOf teller programs n (drop (i + 1) log) (stands h told).rest = λ h told. next_of teller programs turn n (drop (i + 1) log) history h (ap (note_by turn.actor) c.in-Entry.is) (stands h told) in
-    let takes : (h : List Entry) (told : HasNotes (state_of c.args.first) programs log h) → Takes teller c.entry.new.self programs (next h told).entry c.in_ok-entry.entry = λ h told. c.in_ok-entry.ensures (next h told).entry (next h told).tells in
+    let stands : (h : List Told) → HasNotes (state_of c.args.first) programs log h → Stands teller programs (turn ∷ drop (i + 1) log) history h = λ h told. at_turn teller programs log i history h c.loop-turn-test.true (c.loop-turn.invariant.1 h told) in
+    let next : (h : List Told) (told : HasNotes (state_of c.args.first) programs log h) → IsNextOf teller programs n (drop (i + 1) log) (stands h told).rest = λ h told. next_of teller programs turn n (drop (i + 1) log) history h (ap (note_by turn.actor) c.in-Entry.is) (stands h told) in
+    let takes : (h : List Told) (told : HasNotes (state_of c.args.first) programs log h) → Takes teller c.entry.new.self programs (next h told).told.entry c.in_ok-entry.entry = λ h told. c.in_ok-entry.ensures (next h told).told (next h told).tells in
     let pushed : c.push.new.self.items ≡ history ++ c.in_ok-entry.entry ∷ [] = search rules in (
       (takes c.requires.told.0 c.requires.told.1).moves.threads ∙ c.loop-turn.invariant.0,
       λ h told.

@@ -1,7 +1,8 @@
 -- A post is that of the next list of its thread.
 use Rattle.std.proofs.Common.{◌≡◌, ℕ, suc, ◌-◌, List, take, refl, sym, ap, ap₂, ◌∙◌, arith}
 use Rattle.verbs_types.specs.declared.call.Call.{Call}
-use Rattle.verbs_types.specs.declared.entry.Entry.{Entry}
+use Rattle.actor_map.specs.Notes.{Told, note_of}
+use Rattle.noted_history.specs.OfNotes.{Noted}
 use Rattle.verbs_types.specs.declared.entry.What.TheVariants.{Post}
 use Rattle.verbs_model.specs.Tables.{state_of}
 use Rattle.bus_core.specs.declared.turn.Note.{Note}
@@ -13,37 +14,37 @@ use Rattle.noted_history.proofs.Threads.{HasList, list_by_post, AreRead, are_rea
 use Rattle.noted_history.proofs.teller.Teller.posted.Goals as goal
 
 -- the post that the note tells
-module _ (t : Teller) (programs : List (List Call)) (actor : ℕ) (note : Note) (kind : note.kind ≡ POST) (e : Entry) (told : Tells t programs (record { actor = actor; note = note }) e) where
-  post : IsPost (state_of t.state) note e.actor e.what
-  post = post_by_kind (state_of t.state) note e.actor e.what told.noted.seen told.noted.note_is kind told.may
+module _ (t : Teller) (programs : List (List Call)) (actor : ℕ) (note : Note) (kind : note.kind ≡ POST) (e : Told) (told : Tells t programs (record { actor = actor; note = note }) e) where
+  post : IsPost (state_of t.state) note e.entry.actor e.entry.what
+  post = post_by_kind (state_of t.state) note e.entry.actor e.entry.what e.seen (ap (λ (n : Noted). n.note) told.noted) kind told.may
 
-  by_thread : e.actor ≡ suc (actor - 1)
-  by_thread = omega (arith, host_above e.actor post.may.host, told.noted.by)
+  by_thread : e.entry.actor ≡ suc (actor - 1)
+  by_thread = omega (arith, host_above e.entry.actor post.may.host, ap (λ (n : Noted). n.actor) told.noted)
 
-  owes : Owes programs t.postings.items (actor - 1) e.what
+  owes : Owes programs t.postings.items (actor - 1) e.entry.what
   owes = told.owed (actor - 1) by_thread
 
   has : HasList programs t.postings.items (actor - 1)
-  has = list_by_post programs t.postings.items (actor - 1) e.what post.queue post.items post.what_is owes
+  has = list_by_post programs t.postings.items (actor - 1) e.entry.what post.queue post.items post.what_is owes
 
 pub bounds-programs-thread : goal.bounds-programs-thread
-bounds-programs-thread c = (has c.args.self.now c.args.programs.now c.args.actor c.args.note c.requires.kind c.requires.told.entry c.requires.told.tells).inside
+bounds-programs-thread c = (has c.args.self.now c.args.programs.now c.args.actor c.args.note c.requires.kind c.requires.told.told c.requires.told.tells).inside
 
 pub index_mut-requires : goal.index_mut-requires
 index_mut-requires c =
-    let inside = (has c.args.self.now c.args.programs.now c.args.actor c.args.note c.requires.kind c.requires.told.entry c.requires.told.tells).inside in
+    let inside = (has c.args.self.now c.args.programs.now c.args.actor c.args.note c.requires.kind c.requires.told.told c.requires.told.tells).inside in
     omega (arith, c.requires.told.threads, c.args.self.now.postings.ok.0)
 
 -- the thread's calls and count
 read : (c : goal.After-index_mut) → AreRead c.args.programs.now c.args.self.now.postings.items (c.args.actor - 1) c.as_slice-calls.result.now c.index_mut.result.now
 read c = are_read c.args.programs.now c.args.self.now.postings.items (c.args.actor - 1) c.as_slice-calls.result.now c.index-programs-thread.result c.index_mut.result.now
-    (has c.args.self.now c.args.programs.now c.args.actor c.args.note c.requires.kind c.requires.told.entry c.requires.told.tells)
+    (has c.args.self.now c.args.programs.now c.args.actor c.args.note c.requires.kind c.requires.told.told c.requires.told.tells)
     c.requires.told.threads c.as_slice-calls.ensures c.index-programs-thread.is c.index_mut.ensures.value
 
 pub post-requires : goal.post-requires
 post-requires c = record {
   left = left_here c.args.programs.now c.args.self.now.postings.items (c.args.actor - 1) c.as_slice-calls.result.now c.index_mut.result.now (read c)
-      (has c.args.self.now c.args.programs.now c.args.actor c.args.note c.requires.kind c.requires.told.entry c.requires.told.tells);
+      (has c.args.self.now c.args.programs.now c.args.actor c.args.note c.requires.kind c.requires.told.told c.requires.told.tells);
 }
 
 pub returns : goal.returns
@@ -59,11 +60,11 @@ returns c = λ e told.
     let same = are_read programs t.postings.items thread calls c.index-programs-thread.result p has_one c.requires.told.threads c.as_slice-calls.ensures c.index-programs-thread.is c.index_mut.ensures.value in
     let items = c.in_ok-items.ensures.0 in
     let takes = c.in_ok-items.ensures.1 in
-    let front = items_posted calls p.behind c.post.new.self.behind items posted.items posted.queue e.what posted.what_is takes owing.dues (stands_here programs t.postings.items thread calls p same owing.dues owing.may_owe) owing.answers in
+    let front = items_posted calls p.behind c.post.new.self.behind items posted.items posted.queue e.entry.what posted.what_is takes owing.dues (stands_here programs t.postings.items thread calls p same owing.dues owing.may_owe) owing.answers in
     let all : c.from_vec.result ≡ posted.items = c.from_vec.ensures ∙ (c.in_ok-items.ensures.2 ∙ (ap (λ n. take n items) posted.count ∙ front)) in
     record {
       what_is = ap₂ Post (c.queue_of.ensures posted.queue posted.object) all ∙ sym posted.what_is;
       same_state = refl;
-      moves = moves_here programs t.postings.items thread calls p same c.post.new.self e (by_thread t programs c.args.actor c.args.note c.requires.kind e told) (omega (arith, has_one.inside, c.requires.told.threads))
-          (behind_posted calls p.behind c.post.new.self.behind items posted.items posted.queue e.what posted.what_is takes);
+      moves = moves_here programs t.postings.items thread calls p same c.post.new.self e.entry (by_thread t programs c.args.actor c.args.note c.requires.kind e told) (omega (arith, has_one.inside, c.requires.told.threads))
+          (behind_posted calls p.behind c.post.new.self.behind items posted.items posted.queue e.entry.what posted.what_is takes);
     }

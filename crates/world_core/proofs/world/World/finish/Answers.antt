@@ -1,7 +1,7 @@
 -- The operations are a run, whose history is legal, and so the one that the notes tell.
 use Rattle.std.proofs.Common.{◌≡◌, ◌∙◌, sym, ap, subst, List}
 use Rattle.verbs_types.specs.declared.entry.Entry.{Entry}
-use Rattle.actor_rules.specs.Run.{history}
+use Rattle.actor_rules.specs.Run.{IsWoven}
 use Rattle.noted_history.specs.declared.log.TurnRecord.{TurnRecord}
 use Rattle.noted_history.specs.Marks.{marks_in}
 use Rattle.noted_history.specs.OfNotes.{HasNotes}
@@ -12,7 +12,7 @@ use Rattle.world_core.specs.RunInside.{run_view}
 use Rattle.world_core.specs.World.{WorldView}
 use Rattle.operation_bounds.specs.Run.{IsBoundedRun}
 use Rattle.marked_stores.specs.Stores.{SayEntries}
-use Rattle.world_core.proofs.Finishing.{HasLegalHistory, by_law, told, outcome_is}
+use Rattle.world_core.proofs.Finishing.{by_law, tale, told, outcome_is}
 use Rattle.world_core.proofs.world.World.finish.Goals as goal
 
 pub history_of-requires : goal.history_of-requires
@@ -21,11 +21,11 @@ history_of-requires c =
     let v = run_view c.self.inside.run in
     let h = c.self.invariant.holds in
     let consistent = c.copy_of_trace.ensures.consistent in
-    let legal = by_law s v h consistent HasLegalHistory c.woven.ensures c.ready.ensures c.self.invariant.scenario in
+    let legal = by_law s v h consistent IsWoven c.woven.ensures c.ready.ensures c.self.invariant.scenario in
     record {
       told = (
-        history s.lines s.programs h.trace,
-        subst (λ (turns : List TurnRecord). HasNotes (state_of c.self.inside.first) c.as_slice.result.now turns (history s.lines s.programs h.trace)) (sym c.as_slice-turns.ensures.value)
+        tale s v h consistent,
+        subst (λ (turns : List TurnRecord). HasNotes (state_of c.self.inside.first) c.as_slice.result.now turns (tale s v h consistent)) (sym c.as_slice-turns.ensures.value)
             (told s v h consistent legal (state_of c.self.inside.first) c.as_slice.result.now c.self.invariant.first_is (c.as_slice.ensures.value ∙ c.self.invariant.programs_are)),
       );
     }
@@ -36,12 +36,12 @@ returns c =
     let v = run_view c.self.inside.run in
     let h = c.self.invariant.holds in
     let consistent = c.copy_of_trace.ensures.consistent in
-    let legal = by_law s v h consistent HasLegalHistory c.woven.ensures c.ready.ensures c.self.invariant.scenario in
-    let told_here : HasNotes (state_of c.self.inside.first) c.as_slice.result.now c.as_slice-turns.result.now (history s.lines s.programs h.trace) =
-    subst (λ (turns : List TurnRecord). HasNotes (state_of c.self.inside.first) c.as_slice.result.now turns (history s.lines s.programs h.trace)) (sym c.as_slice-turns.ensures.value)
+    let legal = by_law s v h consistent IsWoven c.woven.ensures c.ready.ensures c.self.invariant.scenario in
+    let told_here : HasNotes (state_of c.self.inside.first) c.as_slice.result.now c.as_slice-turns.result.now (tale s v h consistent) =
+    subst (λ (turns : List TurnRecord). HasNotes (state_of c.self.inside.first) c.as_slice.result.now turns (tale s v h consistent)) (sym c.as_slice-turns.ensures.value)
     (told s v h consistent legal (state_of c.self.inside.first) c.as_slice.result.now c.self.invariant.first_is (c.as_slice.ensures.value ∙ c.self.invariant.programs_are)) in
     let o : Outcome = record { trace = c.in_ok-trace.trace; marks = c.in_ok-marks.marks; history = c.from_vec.result } in
     subst (λ (w : WorldView). IsOutcome w.parts w.turns o) c.self.view_is
     (outcome_is s v h consistent legal o (by_law s v h consistent IsBoundedRun c.run_is_bounded.ensures c.ready.ensures c.self.invariant.scenario)
     (by_law s v h consistent SayEntries c.stores_are_told.ensures c.ready.ensures c.self.invariant.scenario) c.in_ok-trace.ensures.trace (c.in_ok-marks.ensures ∙ ap (λ (turns : List TurnRecord). marks_in turns) c.as_slice-turns.ensures.value)
-    (c.from_vec.ensures ∙ c.in_ok-history.ensures.told (history s.lines s.programs h.trace) told_here))
+    (c.from_vec.ensures ∙ c.in_ok-history.ensures.told (tale s v h consistent) told_here))
