@@ -1,6 +1,6 @@
 -- The rule of a thread, over its own operations: it makes the calls of its program one after another, and at last sets
 -- its bit in the word of ended actors.
-use Rattle.std.specs.Prelude.{ℕ, ◌≡◌, ◌^◌, true, false, List, [], ◌∷◌, map, Option, None}
+use Rattle.std.specs.Prelude.{ℕ, ◌≡◌, ◌^◌, true, false, List, [], ◌∷◌, map, length, Option, None}
 use Rattle.bus_core.specs.Mark.{Marked}
 use Rattle.bus_core.specs.Operation.{IsSetBits}
 use Rattle.verbs_types.specs.declared.call.Call.{Call}
@@ -12,8 +12,8 @@ use Rattle.verbs_types.specs.declared.request.Item.TheVariants.{Request as TheRe
 use Rattle.object_places.specs.Objects.{Mark, Ends}
 use Rattle.object_places.specs.declared.ended.TheConstants.{ENDED_WORD}
 use Rattle.actor_rules.specs.Thread.{Thread}
-use Rattle.actor_rules.specs.Posting.{MayPost, after_post, post_says}
-use Rattle.actor_rules.specs.Polling.{MayPoll, after_poll, poll_says, drain_says, calls_after_poll, calls_after_drain}
+use Rattle.actor_rules.specs.Posting.{MayPost, after_post, post_says, post_sees}
+use Rattle.actor_rules.specs.Polling.{MayPoll, after_poll, poll_says, drain_says, poll_sees, calls_after_poll, calls_after_drain}
 
 -- the bit of a thread in the word of ended actors
 pub record MayEnd (t : Thread) (number : ℕ) (x : Marked Mark) : Type 0 where
@@ -53,3 +53,14 @@ call_says d t (Drain cq count ∷ rest) x = drain_says d t cq x
 
 abbrev pub thread_says : Lines → Thread → Marked Mark → Option What
 thread_says d t x = call_says d t t.calls x
+
+-- the count of another actor that the thread has seen by then
+abbrev pub call_sees : Lines → Thread → List Call → Marked Mark → ℕ
+call_sees d t [] x = 0
+call_sees d t (Post qp requests ∷ rest) x = post_sees d t (queues.Send qp) (length (map TheRequest requests)) x.entry
+call_sees d t (Recv qp receives ∷ rest) x = post_sees d t (queues.Recv qp) (length (map TheReceive receives)) x.entry
+call_sees d t (Poll cq most ∷ rest) x = poll_sees d t cq most x
+call_sees d t (Drain cq count ∷ rest) x = poll_sees d t cq 1 x
+
+abbrev pub thread_sees : Lines → Thread → Marked Mark → ℕ
+thread_sees d t x = call_sees d t t.calls x

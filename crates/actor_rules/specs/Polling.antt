@@ -116,3 +116,7 @@ took_some said = said
 
 abbrev pub drain_says : Lines → Thread → ℕ → Marked Mark → Option What
 drain_says d t cq x = took_some (poll_says d t cq 1 x)
+
+-- up to which index the poll has seen the completion queue as published
+abbrev pub poll_sees : Lines → Thread → ℕ → ℕ → Marked Mark → ℕ
+poll_sees d t cq most x = (after_poll_side (poll_place d cq) (poll_now t cq most) (poll_mark d cq x.mark) x.entry).seen

@@ -14,7 +14,7 @@ use Rattle.counted_ring.specs.Mark.{WqMark}
 use Rattle.object_places.specs.Objects.{Mark, OnSends, OnReceives}
 use Rattle.provider_post.specs.declared.call.Call as post
 use Rattle.provider_post.specs.Call.{mark_of, fresh_call}
-use Rattle.provider_post.specs.Rule.{PostRule, MayPostSide, post_side_call, post_side_poster, post_side_entry}
+use Rattle.provider_post.specs.Rule.{PostRule, MayPostSide, post_side_call, post_side_poster, post_side_entry, post_side_sees}
 use Rattle.actor_rules.specs.Thread.{Thread, queue_place}
 
 -- an operation on this queue's words
@@ -48,3 +48,7 @@ after_post d t queue items e rest = record {
 
 abbrev pub post_says : Lines → Thread → Queue → List Item → BusEntry → Option What
 post_says d t queue items e = post_side_entry (queue_place d queue) queue items (post_now t queue (length items)) e
+
+-- the tail that the queue's poster has loaded last
+abbrev pub post_sees : Lines → Thread → Queue → ℕ → BusEntry → ℕ
+post_sees d t queue count e = post_side_sees (queue_place d queue) (post_now t queue count) e

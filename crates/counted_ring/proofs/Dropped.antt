@@ -11,7 +11,7 @@ use Rattle.counted_ring.specs.Queue.{Request, Queue, WqEvent, Wrote, Full, Rang,
 use Rattle.counted_ring.specs.Mark.{WqMark, Post, Ring, Lookup, Count, Retire, Look, Record, Read, Foreign}
 use Rattle.counted_ring.specs.Poster.{Poster, Stage, Ready, Storing, Naming, Counting, Ringing, has_room, post_says_at, ring_says_at}
 use Rattle.counted_ring.specs.PosterView.{brought, fresh_side}
-use Rattle.counted_ring.specs.Rung.{rung_at, rung_after, unrung}
+use Rattle.counted_ring.specs.Rung.{Rung, rung_of, rung_at, rung_after, back_to, unrung}
 use Rattle.counted_ring.specs.Retirer.{Retirer}
 use Rattle.counted_ring.specs.Device.{WqReader}
 use Rattle.counted_ring.proofs.Requests.{request_of, index_more}
@@ -65,13 +65,12 @@ module _ (place : WqPlace) (q : Queue) (s : Shape place q) where
   }
 
 -- what was posted at the last ring is what the list has rung for
-pub record RungFits (q : Queue) (rung : Poster) : Type 0 where
+pub record RungFits (q : Queue) (rung : Rung) : Type 0 where
   pub count : rung.count ≡ q.rung
   pub index : rung.index ≡ index_of q q.rung
-  pub ready : rung.stage ≡ Ready
 
 -- The adapter and the retirer know of none of it.
-pub Tied_dropped : (place : WqPlace) (m : Memory) (p rung : Poster) (r : Retirer) (d : WqReader) (q : Queue) → RungFits q rung → Tied place m p r d q → Tied place m rung r d (unrung q)
+pub Tied_dropped : (place : WqPlace) (m : Memory) (p : Poster) (rung : Rung) (r : Retirer) (d : WqReader) (q : Queue) → RungFits q rung → Tied place m p r d q → Tied place m (back_to rung p) r d (unrung q)
 Tied_dropped place m p rung r d q f t =
     let s = t.shape in
     let o = t.shape.order in
@@ -83,30 +82,30 @@ Tied_dropped place m p rung r d q f t =
           let below : n < q.rung = omega (arith, inside, count_cut place q s) in
           subst (λ (x : Request). Holds place m (index_of (unrung q) n) n x) (sym (request_kept place q s n below))
           (subst (λ (i : ℕ). Holds place m i n (request_of q n)) (sym (index_kept place q s n (omega (arith, below)))) (t.stored n low (omega (arith, below, o.rung))));
-      poster = record { count = f.count ∙ sym (count_cut place q s); index = f.index; stage = subst (λ (g : Stage). StageFits place m (unrung q) g) (sym f.ready) tt };
+      poster = record { count = f.count ∙ sym (count_cut place q s); index = f.index; least = t.poster.least; room = omega (arith, f.count, o.rung, t.poster.count, t.poster.room); stage = tt };
       retirer = RetirerFits_moved place q (unrung q) refl (omega arith) (λ n h. index_kept place q s n (omega (arith, h, o.taken))) (λ n h. request_kept place q s n (omega (arith, h, o.taken))) r t.retirer;
       device = DeviceFits_moved q (unrung q) refl (omega arith) (λ n h. index_kept place q s n h) (λ n h. request_kept place q s n h) d t.device;
     }
 
 -- and it stays so where the poster drops them
-pub RungFits_dropped : (place : WqPlace) (q : Queue) (rung : Poster) → Shape place q → RungFits q rung → RungFits (unrung q) rung
-RungFits_dropped place q rung s f = record { count = f.count; index = f.index ∙ sym (index_kept place q s q.rung (omega arith)); ready = f.ready }
+pub RungFits_dropped : (place : WqPlace) (q : Queue) (rung : Rung) → Shape place q → RungFits q rung → RungFits (unrung q) rung
+RungFits_dropped place q rung s f = record { count = f.count; index = f.index ∙ sym (index_kept place q s q.rung (omega arith)) }
 
 -- as what was rung before the first post
-pub RungFits_start : (index : ℕ) → RungFits (empty_queue index) (fresh_side index)
-RungFits_start index = record { count = refl; index = refl; ready = refl }
+pub RungFits_start : (index : ℕ) → RungFits (empty_queue index) (rung_of (fresh_side index))
+RungFits_start index = record { count = refl; index = refl }
 
 -- other users leave it
-pub RungFits_kept : (place : WqPlace) (q : Queue) (rung : Poster) (event : WqEvent) → Order place q → event ≢ Rang → RungFits q rung → RungFits (after_event place q event) rung
-RungFits_kept place q rung (Wrote words id) o other f = record { count = f.count; index = f.index ∙ sym (index_more place q words id q.rung o.rung); ready = f.ready }
+pub RungFits_kept : (place : WqPlace) (q : Queue) (rung : Rung) (event : WqEvent) → Order place q → event ≢ Rang → RungFits q rung → RungFits (after_event place q event) rung
+RungFits_kept place q rung (Wrote words id) o other f = record { count = f.count; index = f.index ∙ sym (index_more place q words id q.rung o.rung) }
 RungFits_kept place q rung (Full head tail) o other f = f
 RungFits_kept place q rung Rang o other f = absurd (other refl)
 RungFits_kept place q rung (Named counter id) o other f = f
 RungFits_kept place q rung (Found counter id end) o other f = f
-RungFits_kept place q rung (Retired end) o other f = record { count = f.count; index = f.index; ready = f.ready }
-RungFits_kept place q rung (Counted ready true) o other f = record { count = f.count; index = f.index; ready = f.ready }
+RungFits_kept place q rung (Retired end) o other f = record { count = f.count; index = f.index }
+RungFits_kept place q rung (Counted ready true) o other f = record { count = f.count; index = f.index }
 RungFits_kept place q rung (Counted ready false) o other f = f
-RungFits_kept place q rung (Took words) o other f = record { count = f.count; index = f.index; ready = f.ready }
+RungFits_kept place q rung (Took words) o other f = record { count = f.count; index = f.index }
 
 -- what an event, if there is one, makes of a list
 abbrev pub after_says : WqPlace → Queue → Option WqEvent → Queue
@@ -114,7 +113,7 @@ after_says place q None = q
 after_says place q (Some event) = after_event place q event
 
 -- and an operation of the poster's keeps it, or is the store of a record
-module _ (place : WqPlace) (m : Memory) (q : Queue) (p rung : Poster) (o : Order place q) (fits : PosterFits place m q p) (f : RungFits q rung) where
+module _ (place : WqPlace) (m : Memory) (q : Queue) (p : Poster) (rung : Rung) (o : Order place q) (fits : PosterFits place m q p) (f : RungFits q rung) where
   asked : (e : BusEntry) (room : Bool) → RungFits (after_says place q (cond room None (Some (Full p.count (loaded e))))) rung
   asked e true = f
   asked e false = f
@@ -134,7 +133,7 @@ module _ (place : WqPlace) (m : Memory) (q : Queue) (p rung : Poster) (o : Order
   posts Ringing e = f
 
   rings : (stage : Stage) → RungFits (after_says place q (ring_says_at stage)) (rung_at stage p rung)
-  rings Ready = record { count = fits.count; index = fits.index ∙ sym (last_index place q o); ready = refl }
+  rings Ready = record { count = fits.count; index = fits.index ∙ sym (last_index place q o) }
   rings (Storing words) = f
   rings (Naming words) = f
   rings (Counting words id) = f

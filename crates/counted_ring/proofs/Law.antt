@@ -30,7 +30,7 @@ start_tied place index start s = record {
   tail = s.tail;
   recorded = s.recorded;
   stored = λ n low high. absurd (omega (arith, high));
-  poster = record { count = refl; index = refl; stage = tt };
+  poster = record { count = refl; index = refl; least = omega arith; room = omega arith; stage = tt };
   retirer = record { tail = refl; found = omega arith; asked = tt };
   device = record { seen = 0; low = omega arith; high = omega arith; next_is = refl; ready_is = omega arith; words = inl refl };
 }

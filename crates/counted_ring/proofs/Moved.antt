@@ -28,7 +28,7 @@ module _ (place : WqPlace) (m : Memory) (q q' : Queue) (count : length q'.reques
   StageFits_moved Ringing h = tt
 
   pub PosterFits_moved : (p : Poster) → PosterFits place m q p → PosterFits place m q' p
-  PosterFits_moved p h = record { count = h.count ∙ sym count; index = h.index ∙ sym next; stage = StageFits_moved p.stage h.stage }
+  PosterFits_moved p h = record { count = h.count ∙ sym count; index = h.index ∙ sym next; least = omega (arith, h.least, retired); room = h.room; stage = StageFits_moved p.stage h.stage }
 
 -- a list of which more was posted, rung or taken
 module _ (place : WqPlace) (q q' : Queue) (retired : q'.retired ≡ q.retired) (taken : q.taken ≤ q'.taken)

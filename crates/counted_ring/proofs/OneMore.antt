@@ -20,7 +20,8 @@ most_few : (place : WqPlace) → most place ≤ 4
 most_few place = elim (cases_Bool (is_send place)) [ inl send ↦ rw send (omega arith) | inr receive ↦ rw receive (omega arith) ]
 
 module _ (place : WqPlace) (m : Memory) (p : Poster) (r : Retirer) (d : WqReader) (q : Queue) (words : List ℕ) (id : ℕ) (t : Tied place m p r d q)
-    (fills : Fills place m q words) (all : IsAll place words) (named : m (id_at place q.next) ≡ id) (counted : is_send place ≡ true → m (head_at place q.next) ≡ length q.requests) where
+    (fills : Fills place m q words) (all : IsAll place words) (named : m (id_at place q.next) ≡ id) (counted : is_send place ≡ true → m (head_at place q.next) ≡ length q.requests)
+    (leaves : p.count + 1 ≤ p.seen + place.max_post) where
   abbrev after : Queue
   after = more place q words id
 
@@ -62,7 +63,7 @@ module _ (place : WqPlace) (m : Memory) (p : Poster) (r : Retirer) (d : WqReader
           tail = t.tail;
           recorded = t.recorded ∙ ap record_of (sym (index_more place q words id q.rung s.rung));
           stored = stored;
-          poster = record { count = omega (arith, t.poster.count, count); index = ap (λ i. i + span place (slice_index words 0)) t.poster.index; stage = tt };
+          poster = record { count = omega (arith, t.poster.count, count); index = ap (λ i. i + span place (slice_index words 0)) t.poster.index; least = t.poster.least; room = omega (arith, leaves); stage = tt };
           retirer = RetirerFits_moved place q after refl (omega arith) (λ n h. index_more place q words id n (omega (arith, h, s.taken, s.rung))) (λ n h. request_before place q words id n (omega (arith, h, s.taken, s.rung))) r t.retirer;
           device = DeviceFits_moved q after refl (omega arith) (λ n h. index_more place q words id n (omega (arith, h, s.rung))) (λ n h. request_before place q words id n (omega (arith, h, s.rung))) d t.device;
         },

@@ -11,12 +11,13 @@ use Rattle.counted_ring.specs.declared.place.WqPlace.{WqPlace}
 use Rattle.counted_ring.specs.Place.{touches, word_at, span, entry_words, all_words}
 use Rattle.counted_ring.specs.Poster.{Poster, Stage, Storing, Naming, MayPost, stage_with}
 use Rattle.counted_ring.specs.PosterView.{PosterView, PosterTurn, Posting}
+use Rattle.counted_ring.specs.Rung.{Rung}
 use Rattle.counted_ring.proofs.Parts.{long, stored_front, stored_first}
 
-module _ (place : WqPlace) (count index first id seen n : ℕ) (rung : Poster) (entry : SendWords)
+module _ (place : WqPlace) (count index first id seen n : ℕ) (rung : Rung) (entry : SendWords)
     (full : length entry.words ≡ 32) (few : n < 32) (spans : entry.blocks ≡ span place (slice_index entry.words 0)) where
   abbrev at_stage : Stage → PosterView
-  at_stage stage = record { place = place; side = record { count = count; index = index; first = first; stage = stage }; rung = rung; task = Some (Posting (entry_words place entry) id); seen = seen }
+  at_stage stage = record { place = place; side = record { count = count; index = index; first = first; seen = seen; stage = stage }; rung = rung; task = Some (Posting (entry_words place entry) id) }
 
   inside : n < length entry.words
   inside = omega (arith, full, few)
@@ -45,13 +46,12 @@ module _ (place : WqPlace) (count index first id seen n : ℕ) (rung : Poster) (
         record {
           may = may;
           inside = here;
-          side = ap (λ (s : Stage). record { count = count; index = index; first = first; stage = s }) (sym stage);
+          side = ap (λ (s : Stage). record { count = count; index = index; first = first; seen = seen; stage = s }) (sym stage);
           says = refl;
           task = refl;
           done = refl;
           rung = refl;
           fewer = omega (arith, short, length-take-le (n + 1) entry.words (omega (arith, inside)), few);
-          seen = refl;
           place = refl;
         }
 
@@ -62,13 +62,12 @@ module _ (place : WqPlace) (count index first id seen n : ℕ) (rung : Poster) (
         record {
           may = may;
           inside = here;
-          side = ap (λ (s : Stage). record { count = count; index = index; first = first; stage = s }) (sym stage);
+          side = ap (λ (s : Stage). record { count = count; index = index; first = first; seen = seen; stage = s }) (sym stage);
           says = refl;
           task = refl;
           done = refl;
           rung = refl;
           fewer = omega (arith, short, few);
-          seen = refl;
           place = refl;
         }
 

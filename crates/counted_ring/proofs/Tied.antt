@@ -45,9 +45,20 @@ StageFits place m q (Naming words) = Fills place m q words × IsAll place words
 StageFits place m q (Counting words id) = Fills place m q words × IsAll place words × Named place m q id
 StageFits place m q Ringing = Unit {0}
 
+-- how many requests are being written
+abbrev pub coming : Stage → ℕ
+coming Ready = 0
+coming (Storing words) = 1
+coming (Naming words) = 1
+coming (Counting words id) = 1
+coming Ringing = 0
+
 pub record PosterFits (place : WqPlace) (m : Memory) (q : Queue) (p : Poster) : Type 0 where
   pub count : p.count ≡ length q.requests
   pub index : p.index ≡ q.next
+  -- the tail that was seen may be old, and leaves room for all that was posted since
+  pub least : p.seen ≤ q.retired
+  pub room : p.count + coming p.stage ≤ p.seen + place.max_post
   pub stage : StageFits place m q p.stage
 
 -- a request that was taken and not retired, with the counter and the id that were loaded
@@ -134,7 +145,7 @@ module _ (place : WqPlace) (m m' : Memory) (same : SameEntries place m m') where
   StageFits_kept q Ringing h = tt
 
   pub PosterFits_kept : (q : Queue) (p : Poster) → PosterFits place m q p → PosterFits place m' q p
-  PosterFits_kept q p h = record { count = h.count; index = h.index; stage = StageFits_kept q p.stage h.stage }
+  PosterFits_kept q p h = record { count = h.count; index = h.index; least = h.least; room = h.room; stage = StageFits_kept q p.stage h.stage }
 
 -- what leaves the queue's words alone keeps it
 pub Tied_kept : (place : WqPlace) (m m' : Memory) (p : Poster) (r : Retirer) (d : WqReader) (q : Queue) → IsPlace place → ((a : ℕ) → touches place a ≡ true → m' a ≡ m a) → Tied place m p r d q → Tied place m' p r d q

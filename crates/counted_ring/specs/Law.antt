@@ -76,7 +76,7 @@ queue_object place = record {
 
 -- the users before their first operation; the queue's first block has this index
 abbrev pub fresh_poster : ℕ → Poster
-fresh_poster index = record { count = 0; index = index; first = 0; stage = Ready }
+fresh_poster index = record { count = 0; index = index; first = 0; seen = 0; stage = Ready }
 
 abbrev pub fresh_finder : Finder
 fresh_finder = record { retirer = record { tail = 0; found = 0; asked = None }; ends = [] }

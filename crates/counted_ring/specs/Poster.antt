@@ -14,15 +14,20 @@ pub data Stage : Type 0 where
   Counting : (words : List ℕ) (id : ℕ) → Stage
   Ringing : Stage
 
--- how many requests it posted, the block index of the next one, and the first word of the last one
+-- how many requests it posted, the block index of the next one, the first word of the last one, and the tail that was loaded last, at first 0
 pub record Poster : Type 0 where
   pub count : ℕ
   pub index : ℕ
   pub first : ℕ
+  pub seen : ℕ
   pub stage : Stage
 
 abbrev pub at_stage : Poster → Stage → Poster
-at_stage p stage = record { count = p.count; index = p.index; first = p.first; stage = stage }
+at_stage p stage = record { count = p.count; index = p.index; first = p.first; seen = p.seen; stage = stage }
+
+-- the poster that has loaded this tail
+abbrev pub at_tail : Poster → ℕ → Poster
+at_tail p tail = record { count = p.count; index = p.index; first = p.first; seen = tail; stage = p.stage }
 
 abbrev pub has_room : WqPlace → Poster → BusEntry → Bool
 has_room place p e = nat_lt (outstanding p.count (loaded e)) place.max_post
@@ -46,13 +51,13 @@ MayPost place p e = MayPostAt place p p.stage e
 
 -- the poster after this entry
 abbrev pub posted_one : WqPlace → Poster → List ℕ → Poster
-posted_one place p words = record { count = p.count + 1; index = p.index + span place (slice_index words 0); first = slice_index words 0; stage = Ready }
+posted_one place p words = record { count = p.count + 1; index = p.index + span place (slice_index words 0); first = slice_index words 0; seen = p.seen; stage = Ready }
 
 abbrev pub stage_with : WqPlace → List ℕ → Stage
 stage_with place words = if length words == all_words place words then Naming words else Storing words
 
 abbrev pub after_post_at : WqPlace → Poster → Stage → BusEntry → Poster
-after_post_at place p Ready e = at_stage p (if has_room place p e then Storing [] else Ready)
+after_post_at place p Ready e = at_stage (at_tail p (loaded e)) (if has_room place p e then Storing [] else Ready)
 after_post_at place p (Storing words) e = at_stage p (stage_with place (words ++ stored e ∷ []))
 after_post_at place p (Naming words) e = if is_send place then at_stage p (Counting words (stored e)) else posted_one place p words
 after_post_at place p (Counting words id) e = posted_one place p words

@@ -9,6 +9,7 @@ use Rattle.counted_ring.specs.declared.poster.WqPoster.TheInside.{Inside}
 use Rattle.counted_ring.specs.Place.{IsPlace, is_send, span, entry_words}
 use Rattle.counted_ring.specs.Poster.{Stage, Ready, Storing, Naming, Counting, Ringing, Poster}
 use Rattle.counted_ring.specs.PosterView.{PosterView, PosterTask, Posting, Doorbell}
+use Rattle.counted_ring.specs.Rung.{Rung}
 
 abbrev pub stage_in : WqPlace → SendWords → ℕ → Phase → Stage
 stage_in place entry id phases.Idle = Ready
@@ -28,16 +29,18 @@ task_in place entry id phases.Counting = Some (Posting (entry_words place entry)
 task_in place entry id phases.Recording = Some Doorbell
 task_in place entry id phases.Ringing = Some Doorbell
 
-abbrev pub side_in : Posts → Stage → Poster
-side_in posts stage = record { count = posts.count; index = posts.index; first = posts.first; stage = stage }
+abbrev pub side_in : Posts → ℕ → Stage → Poster
+side_in posts seen stage = record { count = posts.count; index = posts.index; first = posts.first; seen = seen; stage = stage }
+
+abbrev pub rung_in : Posts → Rung
+rung_in posts = record { count = posts.count; index = posts.index; first = posts.first }
 
 abbrev pub poster_view : Inside → PosterView
 poster_view a = record {
   place = a.place;
-  side = side_in a.posts (stage_in a.place a.entry a.id a.phase);
-  rung = side_in a.rung Ready;
+  side = side_in a.posts a.seen (stage_in a.place a.entry a.id a.phase);
+  rung = rung_in a.rung;
   task = task_in a.place a.entry a.id a.phase;
-  seen = a.seen;
 }
 
 -- the entry has as many blocks as its first word says

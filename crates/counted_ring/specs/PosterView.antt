@@ -3,7 +3,6 @@ use Rattle.std.specs.Prelude.{ℕ, ◌≡◌, ◌-◌, ◌<◌, List, length, Bo
 use Rattle.bus_core.specs.declared.operation.BusEntry.{BusEntry}
 use Rattle.bus_core.specs.declared.turn.Step.{Step}
 use Rattle.bus_core.specs.declared.turn.Step.TheVariants.{More, Gave, Done}
-use Rattle.bus_core.specs.Operation.{loaded}
 use Rattle.counted_ring.specs.declared.place.WqPlace.{WqPlace}
 use Rattle.counted_ring.specs.declared.poster.Posted.{Posted}
 use Rattle.counted_ring.specs.declared.poster.Posted.TheVariants as answers
@@ -11,7 +10,7 @@ use Rattle.counted_ring.specs.Place.{touches}
 use Rattle.counted_ring.specs.Queue.{WqEvent, Wrote, Full}
 use Rattle.counted_ring.specs.Poster.{Stage, Ready, Storing, Naming, Counting, Ringing, Poster, MayPost, MayRing, after_post, after_ring, post_says, ring_says}
 use Rattle.counted_ring.specs.Mark.{WqMark, Post, Ring, Foreign}
-use Rattle.counted_ring.specs.Rung.{rung_after}
+use Rattle.counted_ring.specs.Rung.{Rung, rung_of, rung_after, back_to}
 use Rattle.counted_ring.specs.Turn.{task_after}
 
 pub data PosterTask : Type 0 where
@@ -22,11 +21,9 @@ pub data PosterTask : Type 0 where
 pub record PosterView : Type 0 where
   pub place : WqPlace
   pub side : Poster
-  -- the side at the last ring, at first the one before the first post
-  pub rung : Poster
+  -- what was posted at the last ring, at first nothing
+  pub rung : Rung
   pub task : Option PosterTask
-  -- the tail that was loaded last, at first 0
-  pub seen : ℕ
 
 -- what its next operation is about
 abbrev pub mark_of : Option PosterTask → WqMark
@@ -63,18 +60,6 @@ answer_says None p answer = None
 answer_says (Some (Posting words id)) p answer = post_answer words id answer
 answer_says (Some Doorbell) p answer = ring_says p
 
-abbrev pub seen_at : Stage → ℕ → BusEntry → ℕ
-seen_at Ready seen e = loaded e
-seen_at (Storing words) seen e = seen
-seen_at (Naming words) seen e = seen
-seen_at (Counting words id) seen e = seen
-seen_at Ringing seen e = seen
-
-abbrev pub seen_after : Option PosterTask → Stage → ℕ → BusEntry → ℕ
-seen_after None stage seen e = seen
-seen_after (Some (Posting words id)) stage seen e = seen_at stage seen e
-seen_after (Some Doorbell) stage seen e = seen
-
 -- what is under way is done exactly where the next operation begins something
 abbrev pub is_done : Step (Unit {0}) Posted → Bool
 is_done More = false
@@ -110,16 +95,15 @@ pub record PosterTurn (old new : PosterView) (e : BusEntry) (answer : Step (Unit
   pub done : is_done answer ≡ is_ready new.side.stage
   pub rung : new.rung ≡ rung_after (mark_of old.task) old.side old.rung
   pub fewer : turns_left new.task new.side.stage < turns_left old.task old.side.stage
-  pub seen : new.seen ≡ seen_after old.task old.side.stage old.seen e
   pub place : new.place ≡ old.place
 
 -- a poster of an empty queue, whose first block has this index
 abbrev pub fresh_side : ℕ → Poster
-fresh_side index = record { count = 0; index = index; first = 0; stage = Ready }
+fresh_side index = record { count = 0; index = index; first = 0; seen = 0; stage = Ready }
 
 abbrev pub fresh : WqPlace → ℕ → PosterView
-fresh place index = record { place = place; side = fresh_side index; rung = fresh_side index; task = None; seen = 0 }
+fresh place index = record { place = place; side = fresh_side index; rung = rung_of (fresh_side index); task = None }
 
--- an idle poster that has posted only what was rung
+-- an idle poster that has posted only what was rung; the tail that it loaded it keeps
 abbrev pub forgotten : PosterView → PosterView
-forgotten p = record { place = p.place; side = p.rung; rung = p.rung; task = None; seen = p.seen }
+forgotten p = record { place = p.place; side = back_to p.rung p.side; rung = p.rung; task = None }

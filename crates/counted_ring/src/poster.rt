@@ -138,7 +138,7 @@ impl WqPoster {
 
     /// The tail that the last load of it showed, in field `a`; 0 before the first.
     pub fn seen(&self) -> Note
-        ensures { result ≡ count_note self.now.seen }
+        ensures { result ≡ count_note self.now.side.seen }
     {
         Note {
             kind: 0,

@@ -12,6 +12,7 @@ use Rattle.actor_map.specs.Notes.{queue_number}
 use Rattle.actor_map.specs.declared.note.TheConstants.{POST}
 use Rattle.counted_ring.specs.declared.place.WqPlace.{WqPlace}
 use Rattle.counted_ring.specs.Queue.{WqEvent, Wrote, Full, Rang, Named, Found, Retired, Counted, Took}
+use Rattle.counted_ring.specs.Poster.{Poster}
 use Rattle.counted_ring.specs.PosterView.{PosterView, PosterTask, Posting, Doorbell}
 use Rattle.provider_post.specs.declared.call.Call.{Call}
 use Rattle.provider_post.specs.declared.answer.PostAnswer.{PostAnswer}
@@ -20,7 +21,7 @@ use Rattle.provider_post.specs.declared.post_step.PostStep.TheVariants as told
 use Rattle.provider_post.specs.Call.{fresh_call, is_written, call_after, told_of}
 use Rattle.provider_post.specs.Item.{CanTake, IsNextItem, WritesItem}
 use Rattle.provider_post.specs.Note.{note_of}
-use Rattle.provider_post.specs.Rule.{entry_told, post_side_says}
+use Rattle.provider_post.specs.Rule.{entry_told, post_side_says, post_side_entry}
 use Rattle.provider_post.specs.Side.{PostView, PostTurn, IsNext, IsListFor, IsListIn, IsListOf, call_of, rule_of}
 use Rattle.provider_post.specs.Queued.{QueueTurn, IsBegun, WritesTask, next_in, next_of, with_task}
 
@@ -103,8 +104,8 @@ module _ (old new : PostView) (items : List Item) (e : BusEntry) (answer : Step 
     side = t.side;
     call = t.call;
     answer_is = t.answer_is;
-    noted = t.noted ∙ noted old.queue items (call_of old) (told_of (post_side_says old.poster.place (rule_of old) e)) new.poster.seen few;
-    seen = t.seen;
+    noted = t.noted ∙ noted old.queue items (call_of old) (told_of (post_side_says old.poster.place (rule_of old) e)) new.poster.side.seen few
+        ∙ ap (λ (seen : ℕ). option_map (λ what. entries.note_of what seen) (post_side_entry old.poster.place old.queue items (rule_of old) e)) (ap (λ (p : Poster). p.seen) t.side);
     rung = t.rung;
     rest = t.rest;
     goes_on = goes_on new.call refl;

@@ -9,12 +9,12 @@ use Rattle.counted_ring.specs.declared.place.WqPlace.{WqPlace}
 use Rattle.counted_ring.specs.declared.poster.Posted.{Posted}
 use Rattle.counted_ring.specs.Place.{is_send, span, most}
 use Rattle.counted_ring.specs.Queue.{WqEvent, Wrote, Full}
-use Rattle.counted_ring.specs.Poster.{Poster, Stage, Ready, Storing, Naming, Counting, Ringing, at_stage, has_room, posted_one, after_post_at, post_says_at}
+use Rattle.counted_ring.specs.Poster.{Poster, Stage, Ready, Storing, Naming, Counting, Ringing, at_stage, at_tail, has_room, posted_one, after_post_at, post_says_at}
 use Rattle.counted_ring.specs.PosterView.{PosterView, Posting, MayBring, after_bring, brought}
-use Rattle.counted_ring.specs.Rung.{rung_after}
+use Rattle.counted_ring.specs.Rung.{Rung, rung_of, rung_after}
 use Rattle.provider_post.specs.declared.call.Call.{Call}
 use Rattle.provider_post.specs.Call.{mark_at, told_of, told_at, call_after, is_last, left_after}
-use Rattle.provider_post.specs.Side.{seen_with, IsAtRest}
+use Rattle.provider_post.specs.Side.{IsAtRest}
 use Rattle.provider_post.specs.Queued.{WritesTask}
 use Rattle.provider_post.specs.Inside.{RungFits, IsAtCall, IsAtWork}
 
@@ -25,15 +25,15 @@ pub record Grows (place : WqPlace) (p p' : Poster) (words : List ℕ) : Type 0 w
   pub stage : p'.stage ≡ Ready
 
 abbrev pub Stays : Poster → Poster → Type 0
-Stays p p' = at_stage p' Ready ≡ at_stage p Ready
+Stays p p' = rung_of p' ≡ rung_of p
 
 abbrev pub Moves : WqPlace → Poster → Poster → Option WqEvent → Type 0
 Moves place p p' None = Stays p p'
 Moves place p p' (Some (Wrote words id)) = Grows place p p' words
-Moves place p p' (Some (Full head tail)) = p' ≡ at_stage p Ready
+Moves place p p' (Some (Full head tail)) = p' ≡ at_stage (at_tail p tail) Ready
 Moves place p p' (Some _) = Unit {0}
 
-asked : (place : WqPlace) (p : Poster) (e : BusEntry) (room : Bool) → Moves place p (at_stage p (cond room (Storing []) Ready)) (cond room None (Some (Full p.count (loaded e))))
+asked : (place : WqPlace) (p : Poster) (e : BusEntry) (room : Bool) → Moves place p (at_stage (at_tail p (loaded e)) (cond room (Storing []) Ready)) (cond room None (Some (Full p.count (loaded e))))
 asked place p e true = refl
 asked place p e false = refl
 
@@ -52,11 +52,8 @@ moves place p (Counting words id) e = grows place p words
 moves place p Ringing e = refl
 
 -- what was rung is as it was, and so is what was posted
-pub rung_stays : (c : Call) (p p' rung rung' : Poster) → Stays p p' → rung' ≡ rung → RungFits c p rung → RungFits c p' rung'
-rung_stays c p p' rung rung' stays same h =
-    let before : RungFits c (at_stage p Ready) rung = record { ready = h.ready; count = h.count; index = h.index; none = h.none; all = h.all } in
-    let after = subst (λ (r : Poster). RungFits c (at_stage p' Ready) r) (sym same) (subst (λ (s : Poster). RungFits c s rung) (sym stays) before) in
-    record { ready = after.ready; count = after.count; index = after.index; none = after.none; all = after.all }
+pub rung_stays : (c : Call) (side side' rung rung' : Rung) → side' ≡ side → rung' ≡ rung → RungFits c side rung → RungFits c side' rung'
+rung_stays c side side' rung rung' stays same h = coe 1 0 (i. RungFits c (stays i) (same i)) h
 
 pub most_few : (place : WqPlace) → most place ≤ 4
 most_few place = elim (cases_Bool (is_send place)) [ inl send ↦ rw send (omega arith) | inr receive ↦ rw receive (omega arith) ]
@@ -78,7 +75,6 @@ pub record Made (p p' : PosterView) (c : Call) (e : BusEntry) (answer : Step (Un
   pub side : p'.side ≡ after_bring p.place p.side (mark_at written) e
   pub told_is : told_at written c.recorded answer ≡ told_of (brought p.place p.side (mark_at written) e)
   pub writes : WritesTask p.task (brought p.place p.side (mark_at written) e)
-  pub seen : p'.seen ≡ seen_with (mark_at written) p.side.stage p.seen e
   pub rung : p'.rung ≡ rung_after (mark_at written) p.side p.rung
   pub work : IsAtWork p' (left_after (is_send p.place) c (call_after c (told_at written c.recorded answer)))
   pub task : (words : List ℕ) (id : ℕ) → p'.task ≡ Some (Posting words id) → p.task ≡ Some (Posting words id)

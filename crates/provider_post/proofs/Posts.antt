@@ -9,15 +9,16 @@ use Rattle.counted_ring.specs.declared.poster.Posted.{Posted}
 use Rattle.counted_ring.specs.declared.poster.Posted.TheVariants as posted
 use Rattle.counted_ring.specs.Place.{is_send}
 use Rattle.counted_ring.specs.Queue.{WqEvent, Wrote, Full}
-use Rattle.counted_ring.specs.Poster.{Poster, Ready, at_stage, after_post_at, post_says_at}
+use Rattle.counted_ring.specs.Poster.{Poster, Ready, at_stage, at_tail, after_post_at, post_says_at}
 use Rattle.counted_ring.specs.PosterView.{PosterView, PosterTask, Posting, MayBring, post_answer}
+use Rattle.counted_ring.specs.Rung.{Rung, rung_of}
 use Rattle.counted_ring.specs.Turn.{task_after}
 use Rattle.counted_ring.proofs.Parts.{span_few}
 use Rattle.provider_post.specs.declared.call.Call.{Call}
 use Rattle.provider_post.specs.declared.post_step.PostStep.{PostStep}
 use Rattle.provider_post.specs.declared.post_step.PostStep.TheVariants as told
 use Rattle.provider_post.specs.Call.{is_written, mark_at, told_of, told_post, call_after, is_last, left_after}
-use Rattle.provider_post.specs.Side.{seen_with, IsAtRest}
+use Rattle.provider_post.specs.Side.{IsAtRest}
 use Rattle.provider_post.specs.Queued.{WritesTask}
 use Rattle.provider_post.specs.Inside.{TaskFits, RungFits, IsAtCall, IsAtWork}
 use Rattle.provider_post.proofs.Calls.{one_left}
@@ -26,8 +27,7 @@ use Rattle.provider_post.proofs.Moves.{Grows, Stays, Moves, moves, rung_stays, m
 module _ (p p' : PosterView) (c : Call) (e : BusEntry) (k : IsAtCall p c) where
   -- of an item
   module _ (words : List ℕ) (id : ℕ) (task_is : p.task ≡ Some (Posting words id)) (left : is_written c ≡ false)
-      (may : MayBring p.place p.side (mark_at false) e) (side : p'.side ≡ after_post_at p.place p.side p.side.stage e)
-      (seen : p'.seen ≡ seen_with (mark_at false) p.side.stage p.seen e) (rung : p'.rung ≡ p.rung) where
+      (may : MayBring p.place p.side (mark_at false) e) (side : p'.side ≡ after_post_at p.place p.side p.side.stage e) (rung : p'.rung ≡ p.rung) where
     recorded : c.recorded ≡ false
     recorded = k.stage.writes left
 
@@ -43,8 +43,8 @@ module _ (p p' : PosterView) (c : Call) (e : BusEntry) (k : IsAtCall p c) where
     -- the same item goes on, or none is under way
     same_call : Stays p.side p'.side → (task : Option PosterTask) → p'.task ≡ task → TaskFits c task → IsAtCall p' c
     same_call stays task is fits =
-        let count : p'.side.count ≡ p.side.count = ap (λ (s : Poster). s.count) stays in
-        let index : p'.side.index ≡ p.side.index = ap (λ (s : Poster). s.index) stays in
+        let count : p'.side.count ≡ p.side.count = ap (λ (r : Rung). r.count) stays in
+        let index : p'.side.index ≡ p.side.index = ap (λ (r : Rung). r.index) stays in
         record {
           few = k.few;
           some = k.some;
@@ -53,7 +53,7 @@ module _ (p p' : PosterView) (c : Call) (e : BusEntry) (k : IsAtCall p c) where
           index_low = omega (arith, index, k.index_low);
           fits = subst (λ (t : Option PosterTask). TaskFits c t) (sym is) fits;
           stage = record { writes = λ h. recorded; record_next = λ h. absurd (both_ways (is_written c) left h); register_next = λ h. absurd (both_ways c.recorded recorded h) };
-          rung = rung_stays c p.side p'.side p.rung p'.rung stays rung k.rung;
+          rung = rung_stays c (rung_of p.side) (rung_of p'.side) p.rung p'.rung stays rung k.rung;
         }
 
     -- the item was written
@@ -71,8 +71,7 @@ module _ (p p' : PosterView) (c : Call) (e : BusEntry) (k : IsAtCall p c) where
           index_low = omega (arith, g.index, k.index_low, next_few, most);
           fits = subst (λ (t : Option PosterTask). TaskFits n t) (sym task) tt;
           stage = record { writes = λ h. recorded; record_next = λ h f. g.stage; register_next = λ h. absurd (both_ways c.recorded recorded h) };
-          rung = subst (λ (r : Poster). RungFits n p'.side r) (sym rung) (record {
-            ready = k.rung.ready;
+          rung = subst (λ (r : Rung). RungFits n (rung_of p'.side) r) (sym rung) (record {
             count = λ h. omega (arith, counted, g.count);
             index = omega (arith, k.rung.index, g.index);
             none = λ h. absurd (omega (arith, h));
@@ -81,11 +80,11 @@ module _ (p p' : PosterView) (c : Call) (e : BusEntry) (k : IsAtCall p c) where
         }
 
     -- the queue is full, and something is to be rung for
-    full_some : (head tail : ℕ) → p'.side ≡ at_stage p.side Ready → p'.task ≡ None → c.accepted ≢ 0 → IsAtCall p' (call_after c (told.Full head tail))
+    full_some : (head tail : ℕ) → p'.side ≡ at_stage (at_tail p.side tail) Ready → p'.task ≡ None → c.accepted ≢ 0 → IsAtCall p' (call_after c (told.Full head tail))
     full_some head tail here task some =
         let n : Call = call_after c (told.Full head tail) in
-        let stays : Stays p.side p'.side = ap (λ (s : Poster). at_stage s Ready) here in
-        let same = rung_stays c p.side p'.side p.rung p'.rung stays rung k.rung in
+        let stays : Stays p.side p'.side = ap rung_of here in
+        let same = rung_stays c (rung_of p.side) (rung_of p'.side) p.rung p'.rung stays rung k.rung in
         let count : p'.side.count ≡ p.side.count = ap (λ (s : Poster). s.count) here in
         let index : p'.side.index ≡ p.side.index = ap (λ (s : Poster). s.index) here in
         record {
@@ -96,19 +95,19 @@ module _ (p p' : PosterView) (c : Call) (e : BusEntry) (k : IsAtCall p c) where
           index_low = omega (arith, index, k.index_low);
           fits = subst (λ (t : Option PosterTask). TaskFits n t) (sym task) tt;
           stage = record { writes = λ h. recorded; record_next = λ h f. ap (λ (s : Poster). s.stage) here; register_next = λ h. absurd (both_ways c.recorded recorded h) };
-          rung = record { ready = same.ready; count = same.count; index = same.index; none = same.none; all = same.all };
+          rung = record { count = same.count; index = same.index; none = same.none; all = same.all };
         }
 
     -- or nothing is
-    full_none : p'.side ≡ at_stage p.side Ready → p'.task ≡ None → c.accepted ≡ 0 → IsAtRest p'
-    full_none here task none = record { task = task; stage = ap (λ (s : Poster). s.stage) here; rung = here ∙ (k.rung.none none ∙ sym rung) }
+    full_none : (tail : ℕ) → p'.side ≡ at_stage (at_tail p.side tail) Ready → p'.task ≡ None → c.accepted ≡ 0 → IsAtRest p'
+    full_none tail here task none = record { task = task; stage = ap (λ (s : Poster). s.stage) here; rung = ap rung_of here ∙ (k.rung.none none ∙ sym rung) }
 
-    full : (head tail : ℕ) → p'.side ≡ at_stage p.side Ready → p'.task ≡ None → IsAtWork p' (left_after (is_send p.place) c (call_after c (told.Full head tail)))
+    full : (head tail : ℕ) → p'.side ≡ at_stage (at_tail p.side tail) Ready → p'.task ≡ None → IsAtWork p' (left_after (is_send p.place) c (call_after c (told.Full head tail)))
     full head tail here task =
         let n : Call = call_after c (told.Full head tail) in
         let quiet : (c.recorded || (n.recorded && not (is_send p.place))) ≡ false = rw recorded refl in
         elim (cases_Bool (eqb c.accepted 0)) [
-          | inl none ↦ ends_call p' (is_send p.place) c n (or_right (c.recorded || (n.recorded && not (is_send p.place))) (eqb c.accepted 0) none) (full_none here task (eqb-true c.accepted 0 none))
+          | inl none ↦ ends_call p' (is_send p.place) c n (or_right (c.recorded || (n.recorded && not (is_send p.place))) (eqb c.accepted 0) none) (full_none tail here task (eqb-true c.accepted 0 none))
           | inr some ↦ goes_on p' (is_send p.place) c n (or_from (c.recorded || (n.recorded && not (is_send p.place))) (eqb c.accepted 0) quiet some) (full_some head tail here task (eqb-false c.accepted 0 some))
         ]
 
@@ -126,11 +125,10 @@ module _ (p p' : PosterView) (c : Call) (e : BusEntry) (k : IsAtCall p c) where
           side = side;
           told_is = nothing ∙ ap told_of says;
           writes = subst (λ (v : Option WqEvent). WritesTask p.task v) says tt;
-          seen = seen;
           rung = rung;
           work = subst (λ (t : PostStep). IsAtWork p' (left_after (is_send p.place) c (call_after c t))) (sym nothing) (goes_on p' (is_send p.place) c c more (same_call stays task is fits));
           task = λ ws i same. kept ws i (sym is ∙ same);
-          index = λ ws i same. ap (λ (s : Poster). s.index) stays;
+          index = λ ws i same. ap (λ (r : Rung). r.index) stays;
           call = λ ws i same. subst (λ (t : PostStep). left_after (is_send p.place) c (call_after c t) ≡ Some c) (sym nothing) (ap (λ (b : Bool). cond b None (Some c)) more);
         }
 
@@ -150,7 +148,6 @@ module _ (p p' : PosterView) (c : Call) (e : BusEntry) (k : IsAtCall p c) where
           side = side;
           told_is = ap told_of says;
           writes = subst (λ (v : Option WqEvent). WritesTask p.task v) says task_is;
-          seen = seen;
           rung = rung;
           work = goes_on p' (is_send p.place) c n (not_last n recorded unrefused) (wrote g task);
           task = λ ws i same. absurd (not_posting ws i task same);
@@ -164,7 +161,6 @@ module _ (p p' : PosterView) (c : Call) (e : BusEntry) (k : IsAtCall p c) where
           side = side;
           told_is = ap told_of says;
           writes = subst (λ (v : Option WqEvent). WritesTask p.task v) says tt;
-          seen = seen;
           rung = rung;
           work = full head tail here task;
           task = λ ws i same. absurd (not_posting ws i task same);

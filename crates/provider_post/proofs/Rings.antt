@@ -10,7 +10,7 @@ use Rattle.counted_ring.specs.Place.{is_send}
 use Rattle.counted_ring.specs.Queue.{WqEvent, Rang}
 use Rattle.counted_ring.specs.Poster.{Poster, Stage, Ready, Ringing, at_stage, after_ring_at, ring_says_at, after_ring}
 use Rattle.counted_ring.specs.PosterView.{PosterView, PosterTask, Posting, Doorbell, MayBring, brought, is_done, is_ready}
-use Rattle.counted_ring.specs.Rung.{rung_at}
+use Rattle.counted_ring.specs.Rung.{Rung, rung_of, rung_at}
 use Rattle.counted_ring.specs.Turn.{task_after}
 use Rattle.provider_post.specs.declared.call.Call.{Call}
 use Rattle.provider_post.specs.declared.post_step.PostStep.{PostStep}
@@ -23,8 +23,7 @@ use Rattle.provider_post.proofs.Moves.{goes_on, ends_call, Made}
 
 module _ (p p' : PosterView) (c : Call) (e : BusEntry) (k : IsAtCall p c) where
   -- of the ring
-  module _ (written : is_written c ≡ true) (may : MayBring p.place p.side (mark_at true) e) (side : p'.side ≡ after_ring p.place p.side)
-      (seen : p'.seen ≡ p.seen) (rung : p'.rung ≡ rung_at p.side.stage p.side p.rung) where
+  module _ (written : is_written c ≡ true) (may : MayBring p.place p.side (mark_at true) e) (side : p'.side ≡ after_ring p.place p.side) (rung : p'.rung ≡ rung_at p.side.stage p.side p.rung) where
     abbrev Rings : Step (Unit {0}) Posted → Type 0
     Rings answer = Made p p' c e answer true
 
@@ -52,7 +51,6 @@ module _ (p p' : PosterView) (c : Call) (e : BusEntry) (k : IsAtCall p c) where
       side = side;
       told_is = told_is ∙ event;
       writes = writes;
-      seen = seen;
       rung = rung;
       work = subst (λ (d : PostStep). IsAtWork p' (left_after (is_send p.place) c (call_after c d))) (sym told_is) work;
       task = λ ws i same. absurd (is_ring answer ws i task same);
@@ -71,7 +69,7 @@ module _ (p p' : PosterView) (c : Call) (e : BusEntry) (k : IsAtCall p c) where
       here : p'.side ≡ at_stage p.side (cond (is_send p.place) Ringing Ready)
       here = side ∙ ap (λ (s : Stage). after_ring_at p.place p.side s) ready
 
-      rang : p'.rung ≡ at_stage p.side Ready
+      rang : p'.rung ≡ rung_of p.side
       rang = rung ∙ ap (λ (s : Stage). rung_at s p.side p.rung) ready
 
       -- at which the call goes on, where there is a register
@@ -80,7 +78,7 @@ module _ (p p' : PosterView) (c : Call) (e : BusEntry) (k : IsAtCall p c) where
           let stored : p'.side ≡ at_stage p.side Ringing = here ∙ ap (λ (b : Bool). at_stage p.side (cond b Ringing Ready)) send in
           let index : p'.side.index ≡ p.side.index = ap (λ (s : Poster). s.index) stored in
           let count : p'.side.count ≡ p.side.count = ap (λ (s : Poster). s.count) stored in
-          let all : at_stage p'.side Ready ≡ p'.rung = ap (λ (s : Poster). at_stage s Ready) stored ∙ sym rang in
+          let all : rung_of p'.side ≡ p'.rung = ap rung_of stored ∙ sym rang in
           record {
             few = k.few;
             some = k.some;
@@ -89,7 +87,7 @@ module _ (p p' : PosterView) (c : Call) (e : BusEntry) (k : IsAtCall p c) where
             index_low = omega (arith, index, k.index_low);
             fits = subst (λ (t : Option PosterTask). TaskFits next t) (sym task) (ring_fits next answer written);
             stage = record { writes = λ h. absurd (both_ways (is_written c) h written); record_next = λ h f. absurd cc; register_next = λ h. ap (λ (s : Poster). s.stage) stored };
-            rung = record { ready = ap (λ (s : Poster). s.stage) rang; count = λ h. absurd cc; index = omega (arith, index, ap (λ (s : Poster). s.index) rang); none = λ h. all; all = λ h. all };
+            rung = record { count = λ h. absurd cc; index = omega (arith, index, ap (λ (r : Rung). r.index) rang); none = λ h. all; all = λ h. all };
           }
 
       -- and with which it ends, where there is none
@@ -97,7 +95,7 @@ module _ (p p' : PosterView) (c : Call) (e : BusEntry) (k : IsAtCall p c) where
       recorded_receive answer receive task over =
           let stored : p'.side ≡ at_stage p.side Ready = here ∙ ap (λ (b : Bool). at_stage p.side (cond b Ringing Ready)) receive in
           let rests : p'.side.stage ≡ Ready = ap (λ (s : Poster). s.stage) stored in
-          record { task = task ∙ done answer p'.side.stage rests over; stage = rests; rung = stored ∙ sym rang }
+          record { task = task ∙ done answer p'.side.stage rests over; stage = rests; rung = ap rung_of stored ∙ sym rang }
 
       some : c.accepted ≢ 0
       some none = omega (arith, none, k.rings_some written)
@@ -130,7 +128,7 @@ module _ (p p' : PosterView) (c : Call) (e : BusEntry) (k : IsAtCall p c) where
         let last : is_last (is_send p.place) c c ≡ true = or_left (c.recorded || (c.recorded && not (is_send p.place))) (is_some c.refused && eqb c.accepted 0) (or_left c.recorded (c.recorded && not (is_send p.place)) recorded) in
         let says : None ≡ brought p.place p.side (mark_at true) e = ap ring_says_at (sym ringing) in
         told_so answer told.Nothing (ap (λ (b : Bool). told_at true b answer) recorded) (ap told_of says) (subst (λ (v : Option WqEvent). WritesTask p.task v) says tt) task
-        (ends_call p' (is_send p.place) c c last (record { task = task ∙ done answer p'.side.stage ready over; stage = ready; rung = here ∙ (k.rung.all recorded ∙ sym same) }))
+        (ends_call p' (is_send p.place) c c last (record { task = task ∙ done answer p'.side.stage ready over; stage = ready; rung = ap rung_of here ∙ (k.rung.all recorded ∙ sym same) }))
 
     pub ring : (answer : Step (Unit {0}) Posted) → p'.task ≡ task_after (Some Doorbell) answer → is_done answer ≡ is_ready p'.side.stage → Rings answer
     ring answer task over = elim (cases_Bool c.recorded) [ inl recorded ↦ at_register answer recorded task over | inr not_yet ↦ at_record not_yet answer task over ]

@@ -15,7 +15,7 @@ use Rattle.bus_core.specs.Operation.{stored}
 use Rattle.counted_ring.specs.Place.{is_send, most}
 use Rattle.counted_ring.proofs.Parts.{span_few}
 use Rattle.counted_ring.specs.PosterView.{PosterTask, after_bring, brought}
-use Rattle.counted_ring.specs.Rung.{rung_at, rung_after}
+use Rattle.counted_ring.specs.Rung.{Rung, rung_at, rung_after}
 use Rattle.provider_post.specs.declared.call.Call.{Call}
 use Rattle.provider_post.specs.declared.answer.PostAnswer.{PostAnswer}
 use Rattle.provider_post.specs.Call.{fresh_call, is_written, mark_at, told_of, call_after, answer_of, answer_with}
@@ -40,14 +40,14 @@ pub goes_on : (old new : PostView) (items : List Item) (e : BusEntry) (answer : 
 goes_on old new items e answer c t some = answers old new items e answer t ∙ ap (λ (o : Option Call). answer_with o (next_call old.poster.place (rule_of old) e)) some
 
 -- Until its record is stored, a call leaves what was rung before it.
-ring_keeps : (stage : Stage) (c : Call) (side rung : Poster) → (call_after c (told_of (ring_says_at stage))).recorded ≡ false → rung_at stage side rung ≡ rung
+ring_keeps : (stage : Stage) (c : Call) (side : Poster) (rung : Rung) → (call_after c (told_of (ring_says_at stage))).recorded ≡ false → rung_at stage side rung ≡ rung
 ring_keeps Ready c side rung unrecorded = absurd cc
 ring_keeps (Storing words) c side rung unrecorded = refl
 ring_keeps (Naming words) c side rung unrecorded = refl
 ring_keeps (Counting words id) c side rung unrecorded = refl
 ring_keeps Ringing c side rung unrecorded = refl
 
-keeps : (written : Bool) (place : WqPlace) (c : Call) (side rung : Poster) (e : BusEntry) → (call_after c (told_of (brought place side (mark_at written) e))).recorded ≡ false → rung_after (mark_at written) side rung ≡ rung
+keeps : (written : Bool) (place : WqPlace) (c : Call) (side : Poster) (rung : Rung) (e : BusEntry) → (call_after c (told_of (brought place side (mark_at written) e))).recorded ≡ false → rung_after (mark_at written) side rung ≡ rung
 keeps false place c side rung e unrecorded = refl
 keeps true place c side rung e unrecorded = ring_keeps side.stage c side rung unrecorded
 
@@ -87,7 +87,7 @@ named place p words id true = rests place p (Counting words id)
 named place p words id false = one_more place p words
 
 posts : (place : WqPlace) (p : Poster) (stage : Stage) (e : BusEntry) → Rises place p (after_post_at place p stage e)
-posts place p Ready e = rests place p _
+posts place p Ready e = record { count = omega arith; index = omega arith }
 posts place p (Storing words) e = rests place p _
 posts place p (Naming words) e = named place p words (stored e) (is_send place)
 posts place p (Counting words id) e = one_more place p words

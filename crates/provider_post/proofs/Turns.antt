@@ -22,22 +22,22 @@ use Rattle.provider_post.proofs.Rings.{ring}
 module _ (p p' : PosterView) (c : Call) (e : BusEntry) (k : IsAtCall p c) where
   -- of either
   abbrev Before : Option PosterTask → PosterView
-  Before task = record { place = p.place; side = p.side; rung = p.rung; task = task; seen = p.seen }
+  Before task = record { place = p.place; side = p.side; rung = p.rung; task = task }
 
   by_task : (answer : Step (Unit {0}) Posted) (task : Option PosterTask) → p.task ≡ task → TaskFits c task → next_in task (Some c) ≡ None → PosterTurn (Before (ring_task task)) p' e answer → Made p p' c e answer (is_written c)
   by_task answer None is fits begun t = elim (cases_Bool (is_written c)) [
-    | inl written ↦ subst (Made p p' c e answer) (sym written) (ring p p' c e k written t.may t.side t.seen t.rung answer t.task t.done)
+    | inl written ↦ subst (Made p p' c e answer) (sym written) (ring p p' c e k written t.may t.side t.rung answer t.task t.done)
     | inr left ↦ absurd (let more : cond (is_written c) None (Some c.accepted) ≡ Some c.accepted = rw left refl in let none : None ≡ Some c.accepted = sym begun ∙ more in cc)
   ]
-  by_task answer (Some (Posting words id)) is fits begun t = subst (Made p p' c e answer) (sym fits) (post p p' c e k words id is fits t.may t.side t.seen t.rung answer t.task t.says)
-  by_task answer (Some Doorbell) is fits begun t = subst (Made p p' c e answer) (sym fits) (ring p p' c e k fits t.may t.side t.seen t.rung answer t.task t.done)
+  by_task answer (Some (Posting words id)) is fits begun t = subst (Made p p' c e answer) (sym fits) (post p p' c e k words id is fits t.may t.side t.rung answer t.task t.says)
+  by_task answer (Some Doorbell) is fits begun t = subst (Made p p' c e answer) (sym fits) (ring p p' c e k fits t.may t.side t.rung answer t.task t.done)
 
 -- what the functions give that a turn calls
 pub record Gives (p' : PosterView) (queue : Queue) (c : Call) (answer : Step (Unit {0}) Posted) (told : PostStep) (next : Call) (left : Option Call) (noted : Option Note) : Type 0 where
   pub told_is : told ≡ told_by c answer
   pub next_is : next ≡ call_after c told
   pub left_is : left ≡ left_after (has_register queue) c next
-  pub noted_is : noted ≡ note_of queue c told p'.seen
+  pub noted_is : noted ≡ note_of queue c told p'.side.seen
 
 -- the turn, and the side after it
 pub record PollStep (p p' : PosterView) (queue : Queue) (before : Option Note) (c next : Call) (e : BusEntry) (left : Option Call) (noted : Option Note) : Type 0 where
@@ -65,8 +65,7 @@ turned p p1 p' queue before c e answer told next left noted s begun rings t g =
         writes = m.writes;
         call = left_by;
         answer_is = ap (λ (o : Option Call). answer_with o next) left_by ∙ ap (λ (n : Call). answer_with (left_after (is_send p.place) c (call_after c event)) n) next_by;
-        noted = g.noted_is ∙ ap (λ (d : PostStep). note_of queue c d p'.seen) (g.told_is ∙ m.told_is);
-        seen = m.seen;
+        noted = g.noted_is ∙ ap (λ (d : PostStep). note_of queue c d p'.side.seen) (g.told_is ∙ m.told_is);
         rung = m.rung;
         rest = λ none. at_rest p' left work none;
         few = s.work.some;

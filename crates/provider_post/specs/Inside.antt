@@ -3,8 +3,9 @@ use Rattle.std.specs.Prelude.{ℕ, ◌≡◌, ◌+◌, ◌*◌, ◌^◌, ◌<◌
 use Rattle.verbs_types.specs.declared.completion.Queue.{Queue}
 use Rattle.verbs_types.specs.declared.completion.Queue.TheVariants.{Send, Recv}
 use Rattle.counted_ring.specs.Place.{is_send}
-use Rattle.counted_ring.specs.Poster.{Poster, Stage, Ready, Ringing, at_stage}
+use Rattle.counted_ring.specs.Poster.{Stage, Ready, Ringing}
 use Rattle.counted_ring.specs.PosterView.{PosterView, PosterTask, Posting, Doorbell}
+use Rattle.counted_ring.specs.Rung.{Rung, rung_of}
 use Rattle.provider_post.specs.declared.call.Call.{Call}
 use Rattle.provider_post.specs.declared.queue_side.QueueSide.TheInside.{Inside}
 use Rattle.provider_post.specs.Call.{is_written}
@@ -27,12 +28,11 @@ pub record StageFits (c : Call) (stage : Stage) : Type 0 where
   pub register_next : c.recorded ≡ true → stage ≡ Ringing
 
 -- what was posted since the last ring
-pub record RungFits (c : Call) (side rung : Poster) : Type 0 where
-  pub ready : rung.stage ≡ Ready
+pub record RungFits (c : Call) (side rung : Rung) : Type 0 where
   pub count : c.recorded ≡ false → rung.count + c.accepted ≡ side.count
   pub index : rung.index ≤ side.index
-  pub none : c.accepted ≡ 0 → at_stage side Ready ≡ rung
-  pub all : c.recorded ≡ true → at_stage side Ready ≡ rung
+  pub none : c.accepted ≡ 0 → side ≡ rung
+  pub all : c.recorded ≡ true → side ≡ rung
 
 -- counts and indices below 2 ^ 61 at the call's beginning stay low
 pub record IsAtCall (poster : PosterView) (c : Call) : Type 0 where
@@ -43,7 +43,7 @@ pub record IsAtCall (poster : PosterView) (c : Call) : Type 0 where
   pub index_low : poster.side.index < 2 ^ 61 + 4 * c.accepted
   pub fits : TaskFits c poster.task
   pub stage : StageFits c poster.side.stage
-  pub rung : RungFits c poster.side poster.rung
+  pub rung : RungFits c (rung_of poster.side) poster.rung
 
 abbrev pub IsAtWork : PosterView → Option Call → Type 0
 IsAtWork poster None = IsAtRest poster

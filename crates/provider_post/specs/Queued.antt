@@ -16,7 +16,7 @@ use Rattle.provider_post.specs.declared.answer.PostAnswer.{PostAnswer}
 use Rattle.provider_post.specs.Call.{mark_of, told_of, next_to}
 use Rattle.provider_post.specs.Note.{note_of}
 use Rattle.provider_post.specs.Rule.{post_side_says, post_side_poster, post_side_call, post_side_answer}
-use Rattle.provider_post.specs.Side.{PostView, IsAtRest, IsListOf, call_of, rule_of, seen_with}
+use Rattle.provider_post.specs.Side.{PostView, IsAtRest, IsListOf, call_of, rule_of}
 
 -- a send queue has a register
 abbrev pub has_register : Queue → Bool
@@ -46,7 +46,7 @@ next_of v = next_in v.poster.task v.call
 -- the same side with this task of its poster
 abbrev pub with_task : PostView → Option PosterTask → PostView
 with_task v task = record {
-  poster = record { place = v.poster.place; side = v.poster.side; rung = v.poster.rung; task = task; seen = v.poster.seen };
+  poster = record { place = v.poster.place; side = v.poster.side; rung = v.poster.rung; task = task };
   queue = v.queue;
   call = v.call;
   noted = v.noted;
@@ -71,8 +71,7 @@ pub record QueueTurn (old new : PostView) (e : BusEntry) (answer : Step (Unit {0
   pub writes : WritesTask old.poster.task (post_side_says old.poster.place (rule_of old) e)
   pub call : new.call ≡ post_side_call old.poster.place (rule_of old) e
   pub answer_is : answer ≡ post_side_answer old.poster.place (rule_of old) e
-  pub noted : new.noted ≡ note_of old.queue (call_of old) (told_of (post_side_says old.poster.place (rule_of old) e)) new.poster.seen
-  pub seen : new.poster.seen ≡ seen_with (mark_of (call_of old)) old.poster.side.stage old.poster.seen e
+  pub noted : new.noted ≡ note_of old.queue (call_of old) (told_of (post_side_says old.poster.place (rule_of old) e)) new.poster.side.seen
   pub rung : new.poster.rung ≡ rung_after (mark_of (call_of old)) old.poster.side old.poster.rung
   pub rest : new.call ≡ None → IsAtRest new.poster
   pub few : (call_of old).accepted ≤ (call_of old).count
@@ -93,4 +92,4 @@ ring_task None = Some Doorbell
 ring_task (Some task) = Some task
 
 abbrev pub IsRung : PosterView → PosterView → Type 0
-IsRung old new = new ≡ record { place = old.place; side = old.side; rung = old.rung; task = ring_task old.task; seen = old.seen }
+IsRung old new = new ≡ record { place = old.place; side = old.side; rung = old.rung; task = ring_task old.task }

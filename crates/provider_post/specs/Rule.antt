@@ -63,6 +63,10 @@ entry_told queue items c Rang = Some (Post queue (take c.accepted items))
 abbrev pub post_side_entry : WqPlace → Queue → List Item → PostRule → BusEntry → Option What
 post_side_entry place queue items s e = entry_told queue items s.call (told_of (post_side_says place s e))
 
--- its note, where the tail that was loaded last is `seen`
-abbrev pub post_side_note : WqPlace → Queue → List Item → PostRule → BusEntry → ℕ → Option Note
-post_side_note place queue items s e seen = option_map (λ what. note_of what seen) (post_side_entry place queue items s e)
+-- the tail that was loaded last with it
+abbrev pub post_side_sees : WqPlace → PostRule → BusEntry → ℕ
+post_side_sees place s e = (post_side_poster place s e).seen
+
+-- the entry's note
+abbrev pub post_side_note : WqPlace → Queue → List Item → PostRule → BusEntry → Option Note
+post_side_note place queue items s e = option_map (λ what. note_of what (post_side_sees place s e)) (post_side_entry place queue items s e)

@@ -9,9 +9,8 @@ use Rattle.counted_ring.specs.declared.place.WqPlace.{WqPlace}
 use Rattle.counted_ring.specs.Place.{touches}
 use Rattle.counted_ring.specs.Poster.{Stage, Ready}
 use Rattle.counted_ring.specs.PosterView as poster
-use Rattle.counted_ring.specs.PosterView.{PosterView, PosterTask, Posting, Doorbell, seen_at}
-use Rattle.counted_ring.specs.Rung.{rung_after}
-use Rattle.counted_ring.specs.Mark.{WqMark, Post}
+use Rattle.counted_ring.specs.PosterView.{PosterView, PosterTask, Posting, Doorbell}
+use Rattle.counted_ring.specs.Rung.{rung_of, rung_after}
 use Rattle.provider_post.specs.declared.call.Call.{Call}
 use Rattle.provider_post.specs.declared.answer.PostAnswer.{PostAnswer}
 use Rattle.provider_post.specs.Call.{fresh_call, mark_of}
@@ -39,7 +38,7 @@ with_call v call = record { poster = v.poster; queue = v.queue; call = call; not
 pub record IsAtRest (poster : PosterView) : Type 0 where
   pub task : poster.task ≡ None
   pub stage : poster.side.stage ≡ Ready
-  pub rung : poster.side ≡ poster.rung
+  pub rung : rung_of poster.side ≡ poster.rung
 
 -- A call may be dropped of which the history tells nothing: its record is not stored, and the queue was not found full.
 abbrev pub MayDrop : Option Call → Type 0
@@ -74,11 +73,6 @@ IsListIn poster queue items (Some c) = IsListFor poster queue items c
 abbrev pub IsListOf : PostView → List Item → Type 0
 IsListOf v items = IsListIn v.poster v.queue items v.call
 
--- the tail that was loaded last
-abbrev pub seen_with : WqMark → Stage → ℕ → BusEntry → ℕ
-seen_with Post stage seen e = seen_at stage seen e
-seen_with _ stage seen e = seen
-
 -- where the rule of a call stands
 abbrev pub rule_of : PostView → PostRule
 rule_of v = record { poster = v.poster.side; call = call_of v }
@@ -90,8 +84,7 @@ pub record PostTurn (old new : PostView) (items : List Item) (e : BusEntry) (ans
   pub side : new.poster.side ≡ post_side_poster old.poster.place (rule_of old) e
   pub call : new.call ≡ post_side_call old.poster.place (rule_of old) e
   pub answer_is : answer ≡ post_side_answer old.poster.place (rule_of old) e
-  pub noted : new.noted ≡ post_side_note old.poster.place old.queue items (rule_of old) e new.poster.seen
-  pub seen : new.poster.seen ≡ seen_with (mark_of (call_of old)) old.poster.side.stage old.poster.seen e
+  pub noted : new.noted ≡ post_side_note old.poster.place old.queue items (rule_of old) e
   pub rung : new.poster.rung ≡ rung_after (mark_of (call_of old)) old.poster.side old.poster.rung
   pub rest : new.call ≡ None → IsAtRest new.poster
   pub goes_on : IsListOf new items

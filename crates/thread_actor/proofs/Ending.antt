@@ -11,9 +11,9 @@ use Rattle.verbs_types.specs.declared.completion.Queue.{Queue}
 use Rattle.actor_map.specs.Sizes.{words_of}
 use Rattle.object_places.specs.declared.ended.TheConstants.{ENDED_WORD}
 use Rattle.object_places.specs.Objects.{Ends}
-use Rattle.actor_rules.specs.Calls.{MayCall, after_call, call_says}
+use Rattle.actor_rules.specs.Calls.{MayCall, after_call, call_says, call_sees}
 use Rattle.thread_actor.specs.Stands.{IsThread, IsAtWork}
-use Rattle.thread_actor.specs.Turn.{ThreadTurn, IsNoteOf, seen_in, marked}
+use Rattle.thread_actor.specs.Turn.{ThreadTurn, IsNoteOf, marked}
 use Rattle.thread_actor.specs.View.{ThreadView, thread_of, calls_left, left_of}
 use Rattle.thread_actor.proofs.PostTurns.{Goes}
 use Rattle.thread_actor.proofs.Rising.{weaken_poster, weaken_host}
@@ -37,7 +37,7 @@ end_goes v e stands going past sets = record {
     mark = Ends;
     may = subst (λ (calls : List Call). MayCall v.lines (thread_of v) v.number calls (marked e Ends)) (sym left) (record { going = going; mark_is = refl; sets = sets });
     goes = ap (λ (calls : List Call). after_call v.lines (thread_of v) calls (marked e Ends)) (sym left);
-    noted = subst (λ (calls : List Call). IsNoteOf (call_says v.lines (thread_of v) calls (marked e Ends)) (seen_in (ended v) calls) None) (sym left) refl;
+    noted = subst (λ (calls : List Call). IsNoteOf (call_says v.lines (thread_of v) calls (marked e Ends)) (call_sees v.lines (thread_of v) calls (marked e Ends)) None) (sym left) refl;
     inside = subst (λ (a : ℕ). a < words_of v.lines) (sym sets.at_address) (ended_low v.lines);
     same = record { lines = refl; number = refl; program = refl };
     rises = λ most below. record {

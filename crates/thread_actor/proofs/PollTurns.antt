@@ -34,10 +34,10 @@ use Rattle.provider_poll.specs.Poll.{PollView, PollTurn, LiesWithin}
 use Rattle.provider_poll.specs.Rule.{PollPlace, PollRule, PollMark, MayPollSide}
 use Rattle.provider_poll.specs.RuleStep.{poll_side_step, after_poll_side}
 use Rattle.provider_poll.proofs.Sides.{stays_within}
-use Rattle.actor_rules.specs.Calls.{MayThread, MayCall, after_thread, after_call, thread_says, call_says}
+use Rattle.actor_rules.specs.Calls.{MayThread, MayCall, after_thread, after_call, thread_says, call_says, call_sees}
 use Rattle.actor_rules.specs.Family.{put_number}
 use Rattle.actor_rules.specs.Polling as rules
-use Rattle.actor_rules.specs.Polling.{MayPoll, poll_now, poll_mark, polled, poll_says, drain_says, took_some, given_after, given_with, is_loading, load_says, store_says, calls_after_poll, calls_after_drain, drain_left}
+use Rattle.actor_rules.specs.Polling.{MayPoll, poll_now, poll_mark, polled, poll_says, poll_sees, drain_says, took_some, given_after, given_with, is_loading, load_says, store_says, calls_after_poll, calls_after_drain, drain_left}
 use Rattle.actor_rules.specs.Thread.{Thread, poll_place, queue_start, fresh_poll}
 use Rattle.thread_actor.specs.declared.polls.Polled.{Polled}
 use Rattle.thread_actor.specs.declared.progress.Progress.{Progress}
@@ -47,7 +47,7 @@ use Rattle.thread_actor.specs.Polls.{GoesOn, begun, begun_at, taken_by, note_at,
 use Rattle.thread_actor.specs.Sides.{SidesView, post_side, poll_side, IfThere}
 use Rattle.thread_actor.specs.Small.{IsBelow, IsPosterBelow, IsHostBelow}
 use Rattle.thread_actor.specs.Stands.{IsThread, IsPostSide, IsPollSide, PostRests, Rests, OthersRest, IsTaking, IsPolling, IsPollWork, IsAtWork, HasSide}
-use Rattle.thread_actor.specs.Turn.{IsNoteOf, seen_in, ThreadTurn, marked}
+use Rattle.thread_actor.specs.Turn.{IsNoteOf, ThreadTurn, marked}
 use Rattle.thread_actor.specs.View.{ThreadView, thread_of, calls_left, left_of, posting_in, poster_in, poll_in}
 use Rattle.thread_actor.proofs.Places.{MovesPoll, drop_there}
 use Rattle.thread_actor.proofs.Polling.{begun_rule, rule_begun, place_begun, to_mark, mark_back, on_polled, said_by, leaves, state_after, host_rises}
@@ -68,7 +68,7 @@ pub record IsTake (call now : Call) (cq most : ℕ) : Type 0 where
   pub work : (u : ThreadView) (rest : List Call) → IsPollWork u cq most → IsAtWork u (now ∷ rest)
   pub at_work : (u : ThreadView) (rest : List Call) → IsAtWork u (now ∷ rest) → IsPollWork u cq most
   pub may : (d : Lines) (t : Thread) (number : ℕ) (x : Marked Mark) (rest : List Call) → MayPoll d t cq most x → MayCall d t number (now ∷ rest) x
-  pub seen : (u : ThreadView) (rest : List Call) → seen_in u (now ∷ rest) ≡ ((thread_of u).polls cq).seen
+  pub sees : (d : Lines) (t : Thread) (x : Marked Mark) (rest : List Call) → call_sees d t (now ∷ rest) x ≡ poll_sees d t cq most x
 
 pub begins : (most : ℕ) (given : List Completion) (state : PollState) → 0 < most → IsPolling most given state → IsPolling most given (rules.begun most state)
 begins most given states.Idle some none = record { asked_is = refl; given_each = ap length none; more = some }
@@ -279,7 +279,7 @@ module _ (v : ThreadView) (sides : SidesView) (call now : Call) (cq most : ℕ) 
           (fun_ext polls_after)
           ended
           ∙ sym (after_is' (marked e mark)) ∙ ap (λ (calls : List Call). after_call v.lines (thread_of v) calls (marked e mark)) (sym left);
-      noted = coe 1 0 (i. IsNoteOf (call_says v.lines (thread_of v) (left i) (marked e mark)) ((ap (seen_in v') left ∙ kind.seen v' rest ∙ ap (λ (r : PollRule). r.seen) (polls_after cq ∙ number_here (thread_of v).polls cq after_rule)) i) note) noted;
+      noted = coe 1 0 (i. IsNoteOf (call_says v.lines (thread_of v) (left i) (marked e mark)) ((ap (λ (calls : List Call). call_sees v.lines (thread_of v) calls (marked e mark)) left ∙ kind.sees v.lines (thread_of v) (marked e mark) rest) i) note) noted;
       inside = poll_inside v.lines cq placed stands.declared lives (begun before most) (place_begun before most ∙ is.place) after e goes.answer goes.turn;
       same = record { lines = same_lines; number = number; program = program };
       rises = λ bound below. record {
@@ -349,7 +349,7 @@ is_poll cq most some = record {
   work = λ u rest h. h;
   at_work = λ u rest h. h;
   may = λ d t number x rest h. h;
-  seen = λ u rest. refl;
+  sees = λ d t x rest. refl;
 }
 
 pub is_drain : (cq count left : ℕ) → IsTake (Drain cq count) (Drain cq left) cq 1
@@ -361,7 +361,7 @@ is_drain cq count left = record {
   work = λ u rest h. h;
   at_work = λ u rest h. h;
   may = λ d t number x rest h. h;
-  seen = λ u rest. refl;
+  sees = λ d t x rest. refl;
 }
 
 module _ (v : ThreadView) (sides : SidesView) (cq most : ℕ) (some : 0 < most) (stands : IsThread v) (found : slice_get v.program v.finished ≡ Some (Poll cq most))

@@ -29,8 +29,8 @@ use Rattle.provider_post.specs.Side.{PostView}
 use Rattle.provider_poll.specs.declared.state.PollState.TheVariants as states
 use Rattle.provider_poll.specs.Poll.{PollView}
 use Rattle.actor_rules.specs.Thread.{Thread, queue_place}
-use Rattle.actor_rules.specs.Posting.{MayPost, on_queue, post_now, after_post as rule_after, calls_after_post, post_says}
-use Rattle.actor_rules.specs.Calls.{MayThread, MayCall, after_thread, after_call, thread_says, call_says}
+use Rattle.actor_rules.specs.Posting.{MayPost, on_queue, post_now, after_post as rule_after, calls_after_post, post_says, post_sees}
+use Rattle.actor_rules.specs.Calls.{MayThread, MayCall, after_thread, after_call, thread_says, call_says, call_sees}
 use Rattle.thread_actor.specs.declared.posts.Posted.{Posted}
 use Rattle.thread_actor.specs.declared.progress.Progress.{Progress}
 use Rattle.thread_actor.specs.Progress.{after_post}
@@ -39,7 +39,7 @@ use Rattle.thread_actor.specs.Posts.{GoesOn, begun}
 use Rattle.thread_actor.specs.Sides.{SidesView, post_side, poll_side, IfThere}
 use Rattle.thread_actor.specs.Small.{IsBelow}
 use Rattle.thread_actor.specs.Stands.{IsThread, IsPostSide, IsPollSide, PostRests, Rests, OthersRest, IsPosting, IsPostWork, IsAtWork, HasSide}
-use Rattle.thread_actor.specs.Turn.{IsNoteOf, seen_in, tail_seen, ThreadTurn, marked}
+use Rattle.thread_actor.specs.Turn.{IsNoteOf, ThreadTurn, marked}
 use Rattle.thread_actor.specs.View.{ThreadView, thread_of, calls_left, left_of, posting_in, call_in}
 use Rattle.thread_actor.proofs.Places.{MovesPost, drop_there}
 use Rattle.thread_actor.proofs.Posting as rule
@@ -72,7 +72,7 @@ pub record IsPost (call : Call) (queue : Queue) (items : List Item) : Type 0 whe
   pub may : (d : Lines) (t : Thread) (number : ℕ) (x : Marked Mark) (rest : List Call) → MayPost d t queue items x → MayCall d t number (call ∷ rest) x
   pub after : (d : Lines) (t : Thread) (x : Marked Mark) (rest : List Call) → after_call d t (call ∷ rest) x ≡ rule_after d t queue items x.entry rest
   pub says : (d : Lines) (t : Thread) (x : Marked Mark) (rest : List Call) → call_says d t (call ∷ rest) x ≡ post_says d t queue items x.entry
-  pub seen : (u : ThreadView) (rest : List Call) → seen_in u (call ∷ rest) ≡ tail_seen (post_side u.sides queue)
+  pub sees : (d : Lines) (t : Thread) (x : Marked Mark) (rest : List Call) → call_sees d t (call ∷ rest) x ≡ post_sees d t queue (length items) x.entry
   pub inside : (d : Lines) (a : ℕ) → ArePlaced → IsTrue (is_declared d) → Lives d (object_of call) → place.touches (queue_place d queue) a ≡ true → a < words_of d
 
 pub is_send : (qp : ℕ) (requests : List Request) → IsPost (Post qp requests) (queues.Send qp) (map TheRequest requests)
@@ -86,7 +86,7 @@ is_send qp requests = record {
   may = λ d t number x rest h. h;
   after = λ d t x rest. refl;
   says = λ d t x rest. refl;
-  seen = λ u rest. refl;
+  sees = λ d t x rest. refl;
   inside = λ d a placed declared lives touched. ((placed d (Sends qp) declared lives).inside a touched).1;
 }
 
@@ -101,7 +101,7 @@ is_receive qp receives = record {
   may = λ d t number x rest h. h;
   after = λ d t x rest. refl;
   says = λ d t x rest. refl;
-  seen = λ u rest. refl;
+  sees = λ d t x rest. refl;
   inside = λ d a placed declared lives touched. ((placed d (Receives qp) declared lives).inside a touched).1;
 }
 
@@ -237,7 +237,7 @@ module _ (v : ThreadView) (sides : SidesView) (call : Call) (queue : Queue) (ite
       may = may;
       goes = rule.post_after v queue items e before after goes.answer moves.was is goes.turn posting_was v' same_lines moves' rest calls posting given ended
           ∙ sym (kind.after v.lines (thread_of v) (marked e mark) rest) ∙ ap (λ (calls : List Call). after_call v.lines (thread_of v) calls (marked e mark)) (sym left);
-      noted = goes.noted ∙ coe 1 0 (i. IsNoteOf ((ap (λ (calls : List Call). call_says v.lines (thread_of v) calls (marked e mark)) left ∙ kind.says v.lines (thread_of v) (marked e mark) rest) i) ((ap (seen_in v') left ∙ kind.seen v' rest ∙ ap tail_seen moves'.now) i) after.noted)
+      noted = goes.noted ∙ coe 1 0 (i. IsNoteOf ((ap (λ (calls : List Call). call_says v.lines (thread_of v) calls (marked e mark)) left ∙ kind.says v.lines (thread_of v) (marked e mark) rest) i) ((ap (λ (calls : List Call). call_sees v.lines (thread_of v) calls (marked e mark)) left ∙ kind.sees v.lines (thread_of v) (marked e mark) rest) i) after.noted)
           (rule.post_noted v queue items e before after goes.answer moves.was is goes.turn posting_was);
       inside = kind.inside v.lines e.addr placed stands.declared (each_at (CanCall v.lines) v.program v.finished call found stands.calls).lives
           (subst (λ (p : WqPlace). place.touches p e.addr ≡ true) is.place goes.turn.inside);

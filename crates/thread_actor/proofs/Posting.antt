@@ -26,7 +26,7 @@ use Rattle.provider_post.specs.Side.{PostView, PostTurn, rule_of}
 use Rattle.actor_rules.specs.Thread.{Thread, queue_place, queue_start}
 use Rattle.actor_rules.specs.Thread as rules
 use Rattle.provider_poll.specs.Rule.{PollRule}
-use Rattle.actor_rules.specs.Posting.{MayPost, on_queue, post_now, after_post, calls_after_post, post_says}
+use Rattle.actor_rules.specs.Posting.{MayPost, on_queue, post_now, after_post, calls_after_post, post_says, post_sees}
 use Rattle.thread_actor.specs.Posts.{GoesOn, begun}
 use Rattle.thread_actor.specs.Sides.{SidesView, post_side, poll_side, IfThere}
 use Rattle.thread_actor.specs.Small.{IsBelow, IsPosterBelow, IsHostBelow}
@@ -115,11 +115,11 @@ module _ (v : ThreadView) (queue : Queue) (items : List Item) (e : BusEntry) (be
   side_is : after.poster.side ≡ post_side_poster (queue_place d queue) now e
   side_is = turn.side ∙ ap (λ (p : WqPlace). post_side_poster p (rule_of (begun before (length items))) e) is.place ∙ ap (λ (s : PostRule). post_side_poster (queue_place d queue) s e) now_is
 
-  pub post_noted : IsNoteOf (post_says d t queue items e) after.poster.seen after.noted
+  pub post_noted : IsNoteOf (post_says d t queue items e) (post_sees d t queue (length items) e) after.noted
   post_noted =
-      turn.noted ∙ ap (λ (p : WqPlace). post_side_note p before.queue items (rule_of (begun before (length items))) e after.poster.seen) is.place
-      ∙ ap (λ (q : Queue). post_side_note (queue_place d queue) q items (rule_of (begun before (length items))) e after.poster.seen) is.queue_is
-      ∙ ap (λ (s : PostRule). post_side_note (queue_place d queue) queue items s e after.poster.seen) now_is
+      turn.noted ∙ ap (λ (p : WqPlace). post_side_note p before.queue items (rule_of (begun before (length items))) e) is.place
+      ∙ ap (λ (q : Queue). post_side_note (queue_place d queue) q items (rule_of (begun before (length items))) e) is.queue_is
+      ∙ ap (λ (s : PostRule). post_side_note (queue_place d queue) queue items s e) now_is
 
   module _ (v' : ThreadView) (same_lines : v'.lines ≡ v.lines) (moves : MovesPost v.sides v'.sides queue before after) where
     -- each poster after it

@@ -51,7 +51,7 @@ named most place p words e below = at_kind (is_send place) where
   at_kind false = one_more most place p words below
 
 posts_at : (most : ℕ) (place : WqPlace) (p : Poster) (stage : Stage) (e : BusEntry) → IsPosterBelow most p → IsPosterBelow (most + 64) (after_post_at place p stage e)
-posts_at most place p Ready e below = staged most p (if has_room place p e then Storing [] else Ready) below
+posts_at most place p Ready e below = record { count = omega (arith, below.count); index = omega (arith, below.index) }
 posts_at most place p (Storing words) e below = staged most p (stage_with place (words ++ stored e ∷ [])) below
 posts_at most place p (Naming words) e below = named most place p words e below
 posts_at most place p (Counting words id) e below = one_more most place p words below

@@ -24,12 +24,12 @@ use Rattle.device_engine.specs.State.{AdapterRule}
 use Rattle.device_engine.specs.View.{ScanView, rule_of, seen_of}
 use Rattle.actor_rules.specs.Actors.{Actors, MayAdapter, after, after_by, says, what_of, by, adapter_entry}
 use Rattle.actor_rules.specs.Roles.{May, MayAny, Knows, part}
-use Rattle.actor_rules.specs.Calls.{MayThread, after_thread, thread_says}
+use Rattle.actor_rules.specs.Calls.{MayThread, after_thread, thread_says, thread_sees}
 use Rattle.actor_rules.specs.Thread.{Thread}
 use Rattle.actor_rules.proofs.Threading.{put_here, put_there}
 use Rattle.scenario_text.specs.declared.scenario.ScenarioParts.{ScenarioParts}
 use Rattle.thread_actor.specs.Small.{IsPosterBelow, IsHostBelow, IsBelow}
-use Rattle.thread_actor.specs.Turn.{marked, IsNoteOf, seen_in}
+use Rattle.thread_actor.specs.Turn.{marked, IsNoteOf}
 use Rattle.thread_actor.specs.View.{ThreadView, thread_of, calls_left}
 use Rattle.thread_actor.proofs.Places.{set_here, set_there}
 use Rattle.noted_history.specs.declared.log.TurnResult.{TurnResult as MadeBy}
@@ -198,8 +198,8 @@ module _ (s : ScenarioParts) (old new : RunView) (t : ℕ) (h : Holds s old) (m 
 
   fits_thread : Fits (suc t) (says s.lines before_all y) m.note
   fits_thread = subst (λ (k : ℕ). Fits (suc t) (said_by s.lines before_all k y) m.note) (sym m.by)
-      (thread_fits (suc t) (thread_says s.lines (before_all.threads (suc t)) y) (seen_in m.after (calls_left m.before)) m.note
-      (thread_is (λ (d : Lines) (r : Thread). IsNoteOf (thread_says d r y) (seen_in m.after (calls_left m.before)) m.note) m.turn.noted))
+      (thread_fits (suc t) (thread_says s.lines (before_all.threads (suc t)) y) (thread_sees s.lines (before_all.threads (suc t)) y) m.note
+      (thread_is (λ (d : Lines) (r : Thread). IsNoteOf (thread_says d r y) (thread_sees d r y) m.note) m.turn.noted))
 
   now_all : actors_after s.lines s.programs (h.trace ++ y ∷ []) ≡ after_by s.lines before_all (suc t) y
   now_all = actors_more s h.trace y (suc t) m.by
