@@ -12,7 +12,7 @@ use Rattle.owner_ring.specs.declared.place.RingPlace.{RingPlace}
 use Rattle.owner_ring.specs.declared.producer.Published.{Published}
 use Rattle.owner_ring.specs.declared.producer.Published.TheVariants as ring_answers
 use Rattle.owner_ring.specs.Place.{owner_bit}
-use Rattle.owner_ring.specs.Producer.{Producer, Ready, Filling, next_index, after_produce}
+use Rattle.owner_ring.specs.Producer.{Producer, Ready, Filling, next_index}
 use Rattle.owner_ring.specs.ProducerView.{ProducerView, ProducerTurn}
 use Rattle.owner_ring.specs.ProducerView as ring_side
 use Rattle.owner_ring.specs.Turn as ring_turn
@@ -67,12 +67,12 @@ same_turns : (words : List ℕ) (side : Producer) → ring_side.turns_left (Some
 same_turns words (Ready index) = refl
 same_turns words (Filling index stores) = refl
 
-few_turns : (completion : Cqe) (words : List ℕ) (side : Producer) (answer : Step (Unit {0}) Published) →
-    turns_left (task_after (Some completion) answer) (record { producer = side; overrun = overruns answer }) ≤ ring_side.turns_left (ring_turn.task_after (Some words) (ring_side.answer_says (Some words) answer)) side
-few_turns completion words side More = omega (arith, same_turns words side)
-few_turns completion words side (Gave part) = omega (arith, same_turns words side)
-few_turns completion words side (Done (ring_answers.At index)) = omega arith
-few_turns completion words side (Done (ring_answers.Full index ci)) = omega arith
+few_turns : (completion : Cqe) (words : List ℕ) (side : Producer) (seen : ℕ) (answer : Step (Unit {0}) Published) →
+    turns_left (task_after (Some completion) answer) (record { producer = side; overrun = overruns answer; seen = seen }) ≤ ring_side.turns_left (ring_turn.task_after (Some words) (ring_side.answer_says (Some words) answer)) side
+few_turns completion words side seen More = omega (arith, same_turns words side)
+few_turns completion words side seen (Gave part) = omega (arith, same_turns words side)
+few_turns completion words side seen (Done (ring_answers.At index)) = omega arith
+few_turns completion words side seen (Done (ring_answers.Full index ci)) = omega arith
 
 module _ (place : CqPlace) (completion : Cqe) (words : List ℕ) (spelled : IsCqe completion (entry_bytes words)) where
   abbrev old : Producer → ℕ → ProducerView
@@ -83,13 +83,12 @@ module _ (place : CqPlace) (completion : Cqe) (words : List ℕ) (spelled : IsCq
   published_at side seen new e answer t = record {
     may = record { runs = refl; ring = t.may; spells = subst (Spells completion) t.says (said_spells completion words answer spelled) };
     inside = t.inside;
-    side = ap (λ (s : Producer). record { producer = s; overrun = overruns answer }) t.side ∙ ap (λ (b : Bool). record { producer = after_produce (ring_of place) side e; overrun = b }) (same_overrun words answer ∙ ap is_full t.says);
+    side = λ i. record { producer = t.side i; overrun = (same_overrun words answer ∙ ap is_full t.says) i; seen = t.seen i };
     says = same_says completion words answer ∙ ap (published_as completion) t.says;
     task = same_task (Some completion) answer;
     fewer =
         let left : new.task ≡ ring_turn.task_after (Some words) (ring_side.answer_says (Some words) answer) = t.task ∙ ap (ring_turn.task_after (Some words)) (sym t.says) in
-        omega (arith, t.fewer, ap (λ (task : Option (List ℕ)). ring_side.turns_left task new.side) left, few_turns completion words new.side answer, same_turns words side);
-    seen = t.seen;
+        omega (arith, t.fewer, ap (λ (task : Option (List ℕ)). ring_side.turns_left task new.side) left, few_turns completion words new.side new.seen answer, same_turns words side);
     place = refl;
   }
 
@@ -115,7 +114,6 @@ dropped place p e (Some completion) busy load = record {
   says = refl;
   task = refl;
   fewer = omega arith;
-  seen = refl;
   place = refl;
 }
 

@@ -15,6 +15,7 @@ use Rattle.owner_ring.specs.Mark as ring_marks
 use Rattle.owner_ring.specs.Consumer.{Consumer, Waiting, Reading, acked_index, next_index, IsReachable}
 use Rattle.owner_ring.proofs.Tied as ring_tied
 use Rattle.owner_ring.proofs.ConsumerStep.{consumer_step}
+use Rattle.owner_ring.proofs.Seeing.{Sees, sees_more}
 use Rattle.cq_pair.specs.declared.place.CqPlace.{CqPlace}
 use Rattle.cq_pair.specs.Place.{ring_of}
 use Rattle.cq_pair.specs.Mark.{QueueMark, Publish, Lose, Look, Read, Take, Acknowledge, Foreign}
@@ -25,13 +26,14 @@ use Rattle.cq_pair.specs.Host.{TakesAs, found, MayPoll, after_poll, polled}
 use Rattle.cq_pair.proofs.Spelled.{AllSpelled, spelled_drop, spelled_at}
 use Rattle.cq_pair.proofs.Tied.{Tied, Fits, Goes, same_produced}
 
-module _ (place : CqPlace) (m : Memory) (d : QueueDevice) (q : PlainQueue) (entries : Ring) where
+module _ (place : CqPlace) (m : Memory) (d : QueueDevice) (q : PlainQueue) (entries : Ring) (sees : Sees (ring_of place) d.producer entries d.seen) where
   looks : (c : Consumer) (i word : ℕ) (owned : Bool) → Fits entries d c q → IsReachable c i → next_index c ≤ ring.published entries →
       ring_tied.Goes (ring_of place) m d.producer (cond owned (Reading (acked_index c) (next_index c) i word []) (Waiting (acked_index c) (next_index c))) entries (cond owned None (Some (ring.Empty i))) →
       Goes place m d (cond owned (Reading (acked_index c) (next_index c) i word []) (Waiting (acked_index c) (next_index c))) q (found (cond owned None (Some (ring.Empty i))))
   looks c i word true f r low g = record {
     entries = entries;
     ring = g;
+    sees = sees;
     fits = record { acked = f.acked; spelled = f.spelled; overrun = f.overrun; polled = f.polled; within = r.next };
   }
   looks c i word false f r low g =
@@ -41,6 +43,7 @@ module _ (place : CqPlace) (m : Memory) (d : QueueDevice) (q : PlainQueue) (entr
         record {
           entries = entries;
           ring = g.1;
+          sees = sees;
           fits = record { acked = f.acked; spelled = f.spelled; overrun = f.overrun; polled = f.polled; within = tt };
         },
       )
@@ -49,7 +52,7 @@ module _ (place : CqPlace) (m : Memory) (d : QueueDevice) (q : PlainQueue) (entr
       ring_tied.Goes (ring_of place) m d.producer (cond full (Waiting a (i + 1)) (Reading a n i l xs)) entries (cond full (Some (ring.Took i vs)) None) →
       Tied place m d (cond full (Waiting a (i + 1)) (Reading a n i l xs)) q
   reads_on a n i l ws xs vs true f none g = absurd cc
-  reads_on a n i l ws xs vs false f none g = record { entries = entries; ring = g; fits = record { acked = f.acked; spelled = f.spelled; overrun = f.overrun; polled = f.polled; within = f.within } }
+  reads_on a n i l ws xs vs false f none g = record { entries = entries; ring = g; sees = sees; fits = record { acked = f.acked; spelled = f.spelled; overrun = f.overrun; polled = f.polled; within = f.within } }
 
   takes : (a n i l : ℕ) (ws xs vs : List ℕ) (completion : Cqe) (full : Bool) → Fits entries d (Reading a n i l ws) q → TakesAs completion (cond full (Some (ring.Took i vs)) None) →
       ring_tied.Goes (ring_of place) m d.producer (cond full (Waiting a (i + 1)) (Reading a n i l xs)) entries (cond full (Some (ring.Took i vs)) None) →
@@ -63,7 +66,7 @@ module _ (place : CqPlace) (m : Memory) (d : QueueDevice) (q : PlainQueue) (entr
           polled = omega (arith, f.polled, f.within);
           found = ap (λ k. slice_get q.completions (i - k)) f.acked ∙ (there.found ∙ ap (λ x. Some x) same);
         },
-        record { entries = entries; ring = g.1; fits = record { acked = f.acked; spelled = f.spelled; overrun = f.overrun; polled = refl; within = tt } },
+        record { entries = entries; ring = g.1; sees = sees; fits = record { acked = f.acked; spelled = f.spelled; overrun = f.overrun; polled = refl; within = tt } },
       )
 
   acknowledges : (c : Consumer) (i : ℕ) → Fits entries d c q → IsReachable c i → ring_tied.Goes (ring_of place) m d.producer (Waiting i (next_index c)) entries (Some (ring.Acked i)) →
@@ -73,6 +76,7 @@ module _ (place : CqPlace) (m : Memory) (d : QueueDevice) (q : PlainQueue) (entr
     record {
       entries = ring.after_event entries (ring.Acked i);
       ring = g.1;
+      sees = sees_more (ring_of place) d.producer entries (ring.after_event entries (ring.Acked i)) d.seen g.0.0 sees;
       fits = record {
         acked = refl;
         spelled = subst (λ k. AllSpelled (drop (i - k) q.completions) (drop (i - entries.acked) entries.entries)) (sym f.acked) (spelled_drop (i - entries.acked) q.completions entries.entries f.spelled);
@@ -88,14 +92,14 @@ pub host_step : (place : CqPlace) (m : Memory) (d : QueueDevice) (c : Consumer) 
 host_step place m d c q (Publish completion) e ok t tells may = absurd may.holds
 host_step place m d c q Lose e ok t tells may = absurd may.holds
 host_step place m d c q (Look i) e ok t tells may =
-    looks place (after_entry m e) d q t.entries c i (loaded e) (is_owned (ring_of place) i (loaded e)) t.fits may.ring.reachable (ring_tied.known t.entries c t.ring.consumer).next_in
+    looks place (after_entry m e) d q t.entries t.sees c i (loaded e) (is_owned (ring_of place) i (loaded e)) t.fits may.ring.reachable (ring_tied.known t.entries c t.ring.consumer).next_in
     (consumer_step (ring_of place) m d.producer c t.entries (ring_marks.Look i) e ok t.ring tells may.ring)
 host_step place m d (Waiting a n) q Read e ok t tells may = absurd may.ring
 host_step place m d (Reading a n i l ws) q Read e ok t tells may =
-    reads_on place (after_entry m e) d q t.entries a n i l ws _ _ (eqb (length ws) 6) t.fits may.holds (consumer_step (ring_of place) m d.producer (Reading a n i l ws) t.entries ring_marks.Read e ok t.ring tells may.ring)
+    reads_on place (after_entry m e) d q t.entries t.sees a n i l ws _ _ (eqb (length ws) 6) t.fits may.holds (consumer_step (ring_of place) m d.producer (Reading a n i l ws) t.entries ring_marks.Read e ok t.ring tells may.ring)
 host_step place m d (Waiting a n) q (Take completion) e ok t tells may = absurd may.ring
 host_step place m d (Reading a n i l ws) q (Take completion) e ok t tells may =
-    takes place (after_entry m e) d q t.entries a n i l ws _ _ completion (eqb (length ws) 6) t.fits may.holds (consumer_step (ring_of place) m d.producer (Reading a n i l ws) t.entries ring_marks.Read e ok t.ring tells may.ring)
+    takes place (after_entry m e) d q t.entries t.sees a n i l ws _ _ completion (eqb (length ws) 6) t.fits may.holds (consumer_step (ring_of place) m d.producer (Reading a n i l ws) t.entries ring_marks.Read e ok t.ring tells may.ring)
 host_step place m d c q (Acknowledge i) e ok t tells may =
-    acknowledges place (after_entry m e) d q t.entries c i t.fits may.ring.reachable (consumer_step (ring_of place) m d.producer c t.entries (ring_marks.Acknowledge i) e ok t.ring tells may.ring)
+    acknowledges place (after_entry m e) d q t.entries t.sees c i t.fits may.ring.reachable (consumer_step (ring_of place) m d.producer c t.entries (ring_marks.Acknowledge i) e ok t.ring tells may.ring)
 host_step place m d c q Foreign e ok t tells may = absurd may.holds

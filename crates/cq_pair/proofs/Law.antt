@@ -1,5 +1,5 @@
 -- The law of a completion queue.
-use Rattle.std.proofs.Common.{ℕ, refl, List, Option, Some, None}
+use Rattle.std.proofs.Common.{ℕ, refl, arith, List, Option, Some, None}
 use Rattle.bus_core.specs.Mark.{Marked}
 use Rattle.bus_core.specs.Trace.{Memory}
 use Rattle.bus_core.proofs.TwoSided.{Advances, law_of}
@@ -27,6 +27,7 @@ pub start_tied : (place : CqPlace) (index : ℕ) (start : Memory) → IsStart (r
 start_tied place index start s = record {
   entries = empty_ring index;
   ring = ring_law.start_tied (ring_of place) index start s;
+  sees = record { least = omega arith; room = tt };
   fits = record { acked = refl; spelled = tt; overrun = refl; polled = refl; within = tt };
 }
 

@@ -5,6 +5,7 @@ pub mod Tied
 pub mod DeviceStep
 pub mod HostStep
 pub mod Law
+pub mod Seeing
 pub mod Knowing
 pub mod Rows
 pub mod Kept

@@ -6,6 +6,7 @@ use Rattle.owner_ring.specs.Ring.{Ring}
 use Rattle.owner_ring.specs.Ring as ring
 use Rattle.owner_ring.specs.Consumer.{Consumer, Waiting, Reading, next_index}
 use Rattle.owner_ring.proofs.Tied as ring_tied
+use Rattle.owner_ring.proofs.Seeing.{Sees}
 use Rattle.cq_pair.specs.declared.place.CqPlace.{CqPlace}
 use Rattle.cq_pair.specs.Place.{ring_of}
 use Rattle.cq_pair.specs.Queue.{PlainQueue, QueueEvent, produced, MayHappen, after_event}
@@ -28,6 +29,7 @@ pub record Fits (entries : Ring) (d : QueueDevice) (h : Consumer) (q : PlainQueu
 pub record Tied (place : CqPlace) (m : Memory) (d : QueueDevice) (h : Consumer) (q : PlainQueue) : Type 0 where
   pub entries : Ring
   pub ring : ring_tied.Tied (ring_of place) m d.producer h entries
+  pub sees : Sees (ring_of place) d.producer entries d.seen
   pub fits : Fits entries d h q
 
 -- what an operation makes of this, with what it says
@@ -36,7 +38,7 @@ Goes place m d h q None = Tied place m d h q
 Goes place m d h q (Some event) = MayHappen (size (ring_of place)) q event × Tied place m d h (after_event q event)
 
 pub Tied_kept : (place : CqPlace) (m m' : Memory) (d : QueueDevice) (h : Consumer) (q : PlainQueue) → ((a : ℕ) → touches (ring_of place) a ≡ true → m' a ≡ m a) → Tied place m d h q → Tied place m' d h q
-Tied_kept place m m' d h q same t = record { entries = t.entries; ring = ring_tied.Tied_kept (ring_of place) m m' d.producer h t.entries same t.ring; fits = t.fits }
+Tied_kept place m m' d h q same t = record { entries = t.entries; ring = ring_tied.Tied_kept (ring_of place) m m' d.producer h t.entries same t.ring; sees = t.sees; fits = t.fits }
 
 -- the queue has as many completions as the ring has entries
 pub same_produced : (entries : Ring) (d : QueueDevice) (h : Consumer) (q : PlainQueue) → Fits entries d h q → produced q ≡ ring.published entries

@@ -1,5 +1,5 @@
 -- The rule of the device's side, over its own operations on the queue's words.
-use Rattle.std.specs.Prelude.{◌≡◌, Bool, true, false, Option, Some, None}
+use Rattle.std.specs.Prelude.{ℕ, ◌≡◌, Bool, true, false, Option, Some, None}
 use Rattle.bus_core.specs.declared.operation.BusEntry.{BusEntry}
 use Rattle.bus_core.specs.Operation.{IsLoad}
 use Rattle.cqe_format.specs.declared.completion.Cqe.{Cqe}
@@ -7,17 +7,20 @@ use Rattle.cqe_format.specs.Bytes.{entry_bytes}
 use Rattle.cqe_format.specs.Completion.{IsCqe}
 use Rattle.owner_ring.specs.Ring.{RingEvent}
 use Rattle.owner_ring.specs.Ring as ring
-use Rattle.owner_ring.specs.Producer.{Producer, MayProduce, after_produce}
+use Rattle.owner_ring.specs.Producer.{Producer, MayProduce, after_produce, seen_after}
 use Rattle.owner_ring.specs.Producer as ring_side
 use Rattle.cq_pair.specs.declared.place.CqPlace.{CqPlace}
 use Rattle.cq_pair.specs.Place.{ring_of}
 use Rattle.cq_pair.specs.Mark.{QueueMark, Publish, Lose}
 use Rattle.cq_pair.specs.Queue.{QueueEvent, Published, Overrun, Lost}
 
--- the side as the ring's producer, and whether the queue has overrun
 pub record QueueDevice : Type 0 where
+  -- the side as the ring's producer
   pub producer : Producer
+  -- whether the queue has overrun
   pub overrun : Bool
+  -- the consumer index that the last load of it for a publication showed, at first the index of the first completion
+  pub seen : ℕ
 
 -- what a publication's operation says to the ring
 abbrev pub produced : CqPlace → QueueDevice → BusEntry → Option RingEvent
@@ -47,8 +50,17 @@ abbrev pub is_full : Option RingEvent → Bool
 is_full (Some (ring.Full index ci)) = true
 is_full _ = false
 
+-- the consumer index that it has seen after the operation: a publication begins with a load of it
+abbrev pub seen_by : QueueDevice → QueueMark → BusEntry → ℕ
+seen_by d (Publish completion) e = seen_after d.producer d.seen e
+seen_by d _ e = d.seen
+
 abbrev pub after_deliver : CqPlace → QueueDevice → QueueMark → BusEntry → QueueDevice
-after_deliver place d (Publish completion) e = record { producer = after_produce (ring_of place) d.producer e; overrun = is_full (produced place d e) }
+after_deliver place d (Publish completion) e = record {
+  producer = after_produce (ring_of place) d.producer e;
+  overrun = is_full (produced place d e);
+  seen = seen_by d (Publish completion) e;
+}
 after_deliver place d _ e = d
 
 abbrev pub published_as : Cqe → Option RingEvent → Option QueueEvent

@@ -16,7 +16,7 @@ device_task a = option_map (λ snapshot. snapshot.value) a.completion
 
 -- a device with such a producer
 abbrev pub device_with : CqPlace → Bool → Option Cqe → ProducerView → DeviceView
-device_with place overrun task ring = record { place = place; side = record { producer = ring.side; overrun = overrun }; task = task; seen = ring.seen }
+device_with place overrun task ring = record { place = place; side = record { producer = ring.side; overrun = overrun; seen = ring.seen }; task = task }
 
 abbrev pub device_view : Inside → DeviceView
 device_view a = device_with a.place a.overrun (device_task a) a.ring

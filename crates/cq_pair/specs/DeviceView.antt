@@ -6,7 +6,6 @@ use Rattle.bus_core.specs.declared.turn.Step.TheVariants.{More, Gave, Done}
 use Rattle.cqe_format.specs.declared.completion.Cqe.{Cqe}
 use Rattle.owner_ring.specs.Place.{touches}
 use Rattle.owner_ring.specs.Producer.{Producer, Ready, Filling}
-use Rattle.owner_ring.specs.ProducerView as ring_side
 use Rattle.cq_pair.specs.declared.place.CqPlace.{CqPlace}
 use Rattle.cq_pair.specs.declared.device.CqSeen.{CqSeen}
 use Rattle.cq_pair.specs.declared.device.CqSeen.TheVariants as answers
@@ -21,8 +20,6 @@ pub record DeviceView : Type 0 where
   pub side : QueueDevice
   -- the completion that it publishes, or drops, while it is at work
   pub task : Option Cqe
-  -- the consumer index that a publication saw last, at first 0
-  pub seen : ℕ
 
 -- what its next operation is about
 abbrev pub mark_of : Option Cqe → Bool → QueueMark
@@ -45,11 +42,6 @@ answer_says task (Done (answers.Published index)) = published_says task index
 answer_says task (Done (answers.Overrun index ci)) = Some (Overrun index ci)
 answer_says task (Done answers.Lost) = Some Lost
 
--- a load of the consumer index for an entry shows one; the one that drops a completion is not asked
-abbrev pub seen_after : Bool → Producer → ℕ → BusEntry → ℕ
-seen_after false producer seen e = ring_side.seen_after producer seen e
-seen_after true producer seen e = seen
-
 -- how many turns the task still takes
 abbrev pub publish_turns : Producer → ℕ
 publish_turns (Ready index) = 9
@@ -71,5 +63,4 @@ pub record DeviceTurn (old new : DeviceView) (e : BusEntry) (answer : Step (Unit
   pub says : answer_says old.task answer ≡ delivered old.place old.side (next_mark old) e
   pub task : new.task ≡ task_after old.task answer
   pub fewer : turns_left new.task new.side < turns_left old.task old.side
-  pub seen : new.seen ≡ seen_after old.side.overrun old.side.producer old.seen e
   pub place : new.place ≡ old.place

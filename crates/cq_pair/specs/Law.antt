@@ -32,7 +32,7 @@ queue_object place = record {
 
 -- the sides before their first operation, with this index
 abbrev pub fresh_device : ℕ → QueueDevice
-fresh_device index = record { producer = Ready index; overrun = false }
+fresh_device index = record { producer = Ready index; overrun = false; seen = index }
 
 abbrev pub fresh_host : ℕ → Consumer
 fresh_host index = Waiting index index

@@ -4,6 +4,7 @@ pub mod Mark
 pub mod Device
 pub mod Host
 pub mod Law
+pub mod Seeing
 pub mod Rows
 pub mod Turn
 pub mod DeviceView

@@ -57,7 +57,7 @@ impl CqDevice {
     /// An idle device of a queue whose first completion has the index `start`.
     pub fn new(at: CqPlace, start: u64) -> CqDevice
         requires { IsPlace (ring_of at) }
-        ensures { result ≡ record { place = at; side = fresh_device start; task = None; seen = 0 } }
+        ensures { result ≡ record { place = at; side = fresh_device start; task = None } }
     {
         CqDevice {
             place: at,
@@ -87,9 +87,10 @@ impl CqDevice {
         self.completion.is_none()
     }
 
-    /// The consumer index that the last publication saw, in field `a`; 0 before the first.
+    /// The consumer index that the last publication saw, in field `a`; before the first one the
+    /// index of the first completion.
     pub fn seen(&self) -> Note
-        ensures { result ≡ count_note self.now.seen }
+        ensures { result ≡ count_note self.now.side.seen }
     {
         self.ring.seen()
     }

@@ -8,6 +8,7 @@ ghost use Rattle.cq_pair.specs.Mark.{QueueMark};
 ghost use Rattle.cq_pair.specs.Place.{ring_of};
 ghost use Rattle.cq_pair.specs.Queue.{PlainQueue, IsLegal, KeepsCompletions, empty_queue};
 ghost use Rattle.cq_pair.specs.Rows.{ReadsAsHistory, StaysOrdered};
+ghost use Rattle.cq_pair.specs.Seeing.{SeesEnough};
 ghost use Rattle.cq_pair.specs.declared.place.CqPlace.{CqPlace};
 
 /// In every consistent trace whose two sides keep their rules, while nobody else writes the queue's
@@ -16,6 +17,13 @@ ghost use Rattle.cq_pair.specs.declared.place.CqPlace.{CqPlace};
 pub fn stands()
     ensures { (place : CqPlace) (index : ℕ) (start : Memory) (trace : List (Marked QueueMark)) →
         IsRun place index start trace → IsLegal (size (ring_of place)) (empty_queue index) (history place index trace) }
+{}
+
+/// In every such trace, the consumer index that the device's side saw last is one that was acknowledged, and
+/// at the store that publishes a completion it leaves room for one more.
+pub fn sees_enough()
+    ensures { (place : CqPlace) (index : ℕ) (start : Memory) (trace : List (Marked QueueMark)) →
+        IsRun place index start trace → SeesEnough place index trace }
 {}
 
 /// What such a history says of completions: publications have consecutive indices, and what is

@@ -9,12 +9,11 @@ use Rattle.object_places.specs.Places.{AreWithin}
 use Rattle.device_engine.specs.declared.scan.Work.TheVariants as works
 use Rattle.device_engine.specs.Scan.{IsQueue, IsScan, IsStanding, Idle}
 use Rattle.device_engine.specs.Scan as scan
-use Rattle.device_engine.specs.Seen.{nothing_seen}
 use Rattle.device_engine.specs.State.{Publishing, working, fresh_adapter}
-use Rattle.device_engine.specs.View.{ScanView, rule_of, seen_of}
+use Rattle.device_engine.specs.View.{ScanView, rule_of}
 use Rattle.device_engine.proofs.Kept.{queue_changed, with_queue_at, rework}
 use Rattle.device_engine.proofs.Numbers.{by_same}
-use Rattle.device_engine.proofs.Publications.{side_of, seen_in}
+use Rattle.device_engine.proofs.Publications.{side_of}
 
 module _ (v : ScanView) (cq : ℕ) (kept : Snapshot Cqe) (completion : Cqe) (q q' : DeviceView) (found : slice_get v.queues cq ≡ Some q) (s : IsScan v Idle)
     (visit : v.visit < length v.pairs) (is : kept.value ≡ completion) (begins : q' ≡ record q { task = Some completion }) where
@@ -40,6 +39,3 @@ module _ (v : ScanView) (cq : ℕ) (kept : Snapshot Cqe) (completion : Cqe) (q q
     readers = (rule_of v).readers;
     queues = λ n. by_same 0 side_of (fresh_adapter v.declared).queues v.queues cq q q' found (ap side_of begins) n i;
   }
-
-  pub seen_began : seen_of began ≡ seen_of v
-  seen_began = λ i n. by_same 0 seen_in nothing_seen v.queues cq q q' found (ap seen_in begins) n i

@@ -1,7 +1,7 @@
 -- Counts and indices rise by at most four an operation.
-use Rattle.std.proofs.Common.{◌≡◌, ℕ, ◌+◌, ◌-◌, ◌*◌, ◌^◌, ◌<◌, ◌≤◌, ◌==◌, inl, inr, refl, sym, ap, ◌∙◌, subst, arith, cond, Bool, true, false, nat_lt, IsTrue, List, [], ◌∷◌, ◌++◌, length, get_or, Option, Some, None}
+use Rattle.std.proofs.Common.{◌≡◌, ℕ, ◌+◌, ◌-◌, ◌^◌, ◌<◌, ◌≤◌, ◌==◌, inl, inr, refl, sym, ap, subst, arith, cond, Bool, true, false, nat_lt, IsTrue, List, [], ◌∷◌, ◌++◌, length, get_or, Option, Some, None}
 use Rattle.std.specs.Prelude.{slice_index}
-use Rattle.std.proofs.lemmas.Bool.{cases_Bool, cond_both, ltb-false, ltb-true}
+use Rattle.std.proofs.lemmas.Bool.{cases_Bool, cond_both, ltb-true}
 use Rattle.std.proofs.lemmas.List.{get_or_past}
 use Rattle.std.proofs.lemmas.Bool.{cases_lt}
 use Rattle.bus_core.specs.declared.operation.BusEntry.{BusEntry}
@@ -31,7 +31,7 @@ use Rattle.object_places.proofs.Lines.{lines_of, qp_sizes, cq_sizes}
 use Rattle.device_engine.specs.Counts.{CountsBelow, CountsGrow}
 use Rattle.device_engine.specs.Entry.{wants, nop_cqe}
 use Rattle.device_engine.specs.Rows.{is_ready, read_or_next, recorded, fetched, published, publish_event, publish_mark}
-use Rattle.device_engine.specs.Rule.{after_adapt, after_at}
+use Rattle.device_engine.specs.Rule.{after_at}
 use Rattle.device_engine.specs.State.{AdapterAt, AdapterRule, Looking, Recording, Reading, Publishing, Ending, reader, visiting, working, next_visit, with_reader, with_taken, with_queue, put_number, send_cq, fresh_adapter}
 
 -- one changed value

@@ -21,12 +21,11 @@ use Rattle.device_engine.specs.Rows.{read_or_next, after_looking, after_recordin
 use Rattle.device_engine.specs.Scan.{IsPair, IsScan, Idle}
 use Rattle.device_engine.specs.State.{AdapterRule, Recording, working, with_reader}
 use Rattle.device_engine.specs.NextWork.{comes_ready, comes_looked, comes_recorded}
-use Rattle.device_engine.specs.Event.{notes}
-use Rattle.device_engine.specs.Rule.{mark_at, MayAt, after_at, said_at}
-use Rattle.device_engine.specs.Seen.{seen_at}
+use Rattle.device_engine.specs.Event.{IsAdapterNote}
+use Rattle.device_engine.specs.Rule.{mark_at, MayAt, after_at, said_at, sees_at}
 use Rattle.device_engine.specs.Turn.{Operates, is_about}
 use Rattle.device_engine.specs.Counts.{CountsBelow}
-use Rattle.device_engine.specs.View.{ScanView, at_of, rule_of, seen_of}
+use Rattle.device_engine.specs.View.{ScanView, at_of, rule_of}
 use Rattle.device_engine.proofs.Kept.{reads, pair_changed, with_pair}
 use Rattle.device_engine.proofs.Visits.{Stands, reader_is, side_moved, is_low, task_here, goes_cond, ready_row, stands_ready}
 
@@ -103,8 +102,7 @@ module _ (v : ScanView) (p : Pair) (e : BusEntry) (found : slice_get v.pairs v.v
       rule = ap (λ (c : NextWork). goes d c (rule_of (with_pair v p'))) l.comes_is
           ∙ (ap (λ (q : Pair). goes d (comes_looked p.may_send r e) (rule_of (with_pair v q))) l.pair
           ∙ (rule_looked ∙ ap (λ (w : Work). after_at d rule (at_of w) e) (sym work)));
-      note_is = ap (λ (w : Work). notes (seen_of v) (said_at d rule (at_of w) e)) (sym work);
-      seen = ap (λ (w : Work). seen_at rule (seen_of v) (at_of w) e) (sym work);
+      note_is = subst (λ (w : Work). IsAdapterNote (said_at d rule (at_of w) e) (sees_at rule (at_of w) e) None) (sym work) refl;
       scan = stands_look.scan;
       can_go = stands_look.can;
       declared = refl;
@@ -135,8 +133,7 @@ module _ (v : ScanView) (p : Pair) (e : BusEntry) (found : slice_get v.pairs v.v
       rule = ap (λ (c : NextWork). goes d c (rule_of (with_pair v p'))) l.comes_is
           ∙ (ap (λ (q : Pair). goes d (comes_recorded p.may_send r e) (rule_of (with_pair v q))) l.pair
           ∙ (rule_recorded ∙ ap (λ (w : Work). after_at d rule (at_of w) e) (sym work)));
-      note_is = ap (λ (w : Work). notes (seen_of v) (said_at d rule (at_of w) e)) (sym work);
-      seen = ap (λ (w : Work). seen_at rule (seen_of v) (at_of w) e) (sym work);
+      note_is = subst (λ (w : Work). IsAdapterNote (said_at d rule (at_of w) e) (sees_at rule (at_of w) e) None) (sym work) refl;
       scan = stands_record.scan;
       can_go = stands_record.can;
       declared = refl;

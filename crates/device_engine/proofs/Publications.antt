@@ -11,35 +11,31 @@ use Rattle.owner_ring.specs.Place as ring
 use Rattle.owner_ring.specs.Turn.{CanServe}
 use Rattle.cq_pair.specs.declared.place.CqPlace.{CqPlace}
 use Rattle.cq_pair.specs.Place.{ring_of}
-use Rattle.cq_pair.specs.Device.{QueueDevice, MayDeliver, after_deliver, delivered}
-use Rattle.cq_pair.specs.DeviceView.{DeviceView, mark_of, seen_after}
+use Rattle.cq_pair.specs.Device.{QueueDevice, MayDeliver, after_deliver, seen_by, delivered}
+use Rattle.cq_pair.specs.DeviceView.{DeviceView, mark_of}
 use Rattle.cq_pair.specs.Queue.{QueueEvent, Published, Overrun, Lost, Took, Empty, Acked}
+use Rattle.cq_pair.proofs.Seeing.{seen_after_deliver}
 use Rattle.object_places.specs.Places.{completions_of, AreWithin}
 use Rattle.device_engine.specs.declared.scan.Work.{Work}
 use Rattle.device_engine.specs.declared.scan.Work.TheVariants as works
 use Rattle.device_engine.specs.declared.outcome.NextWork.TheVariants.{Next}
 use Rattle.device_engine.specs.declared.outcome.Outcome.{Outcome}
-use Rattle.device_engine.specs.Event.{event_note, notes, publish_said}
-use Rattle.device_engine.specs.Event as events
+use Rattle.device_engine.specs.Event.{IsAdapterNote, publish_said}
 use Rattle.device_engine.specs.Goes.{goes, told_published}
 use Rattle.device_engine.specs.Publishing.{Publishes, task_left}
 use Rattle.device_engine.specs.Rows.{published, publish_event, publish_mark}
-use Rattle.device_engine.specs.Rule.{mark_at, MayAt, after_at, said_at}
+use Rattle.device_engine.specs.Rule.{mark_at, MayAt, after_at, said_at, sees_at}
 use Rattle.device_engine.specs.Scan.{IsQueue, IsScan, IsStanding, IsThere, IsPublishing, Idle, CanPublish, CanGo, task_of, task_before, queue_task}
 use Rattle.device_engine.specs.Scan as scan
-use Rattle.device_engine.specs.Seen.{nothing_seen, seen_at}
 use Rattle.device_engine.specs.State.{AdapterRule, with_queue, put_number, fresh_adapter}
 use Rattle.device_engine.specs.Turn.{CanScan, Operates, is_about}
-use Rattle.device_engine.specs.View.{ScanView, at_of, rule_of, seen_of}
+use Rattle.device_engine.specs.View.{ScanView, at_of, rule_of}
 use Rattle.device_engine.proofs.Kept.{publishes, queue_changed, with_queue_at}
-use Rattle.device_engine.proofs.Numbers.{by_at, by_put, get_same}
+use Rattle.device_engine.proofs.Numbers.{by_at, by_put}
 use Rattle.device_engine.proofs.Visits.{Stands}
 
 abbrev pub side_of : DeviceView → QueueDevice
 side_of q = q.side
-
-abbrev pub seen_in : DeviceView → ℕ
-seen_in q = q.seen
 
 -- a port of the adapter serves the queue
 pub serves_queue : {Bus : Type 0} (d : Lines) (cq : ℕ) (q : DeviceView) (port : Port Bus) → IsQueue d cq q → CanScan d port → CanServe (ring_of q.place) port
@@ -59,14 +55,14 @@ published_row (Some (Took index completion)) d s cq seen = refl
 published_row (Some (Empty index)) d s cq seen = refl
 published_row (Some (Acked ci)) d s cq seen = refl
 
-published_note : (event : Option QueueEvent) (cq seen number : ℕ) (all : ℕ → ℕ) → all cq ≡ seen → (told_published cq seen event).note ≡ notes all (publish_said cq number event)
-published_note None cq seen number all is = refl
-published_note (Some (Published index completion)) cq seen number all is = ap (λ (n : ℕ). Some (event_note (λ (m : ℕ). n) (events.Published cq completion number index))) (sym is)
-published_note (Some (Overrun index ci)) cq seen number all is = refl
-published_note (Some Lost) cq seen number all is = refl
-published_note (Some (Took index completion)) cq seen number all is = refl
-published_note (Some (Empty index)) cq seen number all is = refl
-published_note (Some (Acked ci)) cq seen number all is = refl
+published_note : (event : Option QueueEvent) (cq seen number : ℕ) → IsAdapterNote (publish_said cq number event) seen (told_published cq seen event).note
+published_note None cq seen number = refl
+published_note (Some (Published index completion)) cq seen number = λ x. refl
+published_note (Some (Overrun index ci)) cq seen number = refl
+published_note (Some Lost) cq seen number = refl
+published_note (Some (Took index completion)) cq seen number = refl
+published_note (Some (Empty index)) cq seen number = refl
+published_note (Some (Acked ci)) cq seen number = refl
 
 -- the completion queue of a publication
 module _ (v : ScanView) (cq : ℕ) (kept : Snapshot Cqe) (q : DeviceView) (found : slice_get v.queues cq ≡ Some q) (work : v.work ≡ works.Publishing cq kept) (s : IsScan v (scan.Publishes cq kept.value)) where
@@ -88,9 +84,6 @@ module _ (v : ScanView) (cq : ℕ) (kept : Snapshot Cqe) (q : DeviceView) (found
   side_is : q.side ≡ rule.queues cq
   side_is = sym (subst (λ (k : ℕ). rule.queues k ≡ q.side) (zero-add cq) (by_at 0 side_of (fresh_adapter d).queues v.queues cq q found))
 
-  seen_is : q.seen ≡ seen_of v cq
-  seen_is = sym (subst (λ (k : ℕ). seen_of v k ≡ q.seen) (zero-add cq) (by_at 0 seen_in nothing_seen v.queues cq q found))
-
   module _ (q' : DeviceView) (told : Outcome) (e : BusEntry) (m : Publishes cq q q' e told) (visit : v.visit < length v.pairs) where
     abbrev event : Option QueueEvent
     event = publish_event d rule cq c e
@@ -110,11 +103,11 @@ module _ (v : ScanView) (cq : ℕ) (kept : Snapshot Cqe) (q : DeviceView) (found
     side_after : q'.side ≡ after_deliver (completions_of d cq) (rule.queues cq) (publish_mark rule cq c) e
     side_after = m.side ∙ (ap (λ (t : Option Cqe). side_from q.place q.side t) task_is ∙ (ap (λ (x : QueueDevice). side_from q.place x (Some c)) side_is ∙ ap (λ (pl : CqPlace). side_from pl (rule.queues cq) (Some c)) is_queue.place))
 
-    seen_at_cq : q'.seen ≡ seen_after (rule.queues cq).overrun (rule.queues cq).producer (seen_of v cq) e
-    seen_at_cq = m.seen ∙ (ap (λ (x : QueueDevice). seen_after x.overrun x.producer q.seen e) side_is ∙ ap (λ (n : ℕ). seen_after (rule.queues cq).overrun (rule.queues cq).producer n e) seen_is)
+    seen_is : q'.side.seen ≡ seen_by (rule.queues cq) (publish_mark rule cq c) e
+    seen_is = ap (λ (x : QueueDevice). x.seen) side_after ∙ seen_after_deliver (completions_of d cq) (rule.queues cq) (publish_mark rule cq c) e
 
-    told_is : told ≡ told_published cq q'.seen event
-    told_is = m.told_is ∙ ap (told_published cq q'.seen) event_is
+    told_is : told ≡ told_published cq q'.side.seen event
+    told_is = m.told_is ∙ ap (told_published cq q'.side.seen) event_is
 
     moved : rule_of after ≡ with_queue cq (after_deliver (completions_of d cq) (rule.queues cq) (publish_mark rule cq c) e) rule
     moved = λ i. record {
@@ -124,12 +117,6 @@ module _ (v : ScanView) (cq : ℕ) (kept : Snapshot Cqe) (q : DeviceView) (found
       readers = rule.readers;
       queues = λ n. (by_put 0 side_of (fresh_adapter d).queues v.queues cq q q' found n ∙ (ap (λ (k : ℕ). put_number rule.queues k q'.side n) (zero-add cq) ∙ ap (λ (x : QueueDevice). put_number rule.queues cq x n) side_after)) i;
     }
-
-    seen_moved : seen_of after ≡ put_number (seen_of v) cq (seen_after (rule.queues cq).overrun (rule.queues cq).producer (seen_of v cq) e)
-    seen_moved = λ i n. (by_put 0 seen_in nothing_seen v.queues cq q q' found n ∙ (ap (λ (k : ℕ). put_number (seen_of v) k q'.seen n) (zero-add cq) ∙ ap (λ (x : ℕ). put_number (seen_of v) cq x n) seen_at_cq)) i
-
-    seen_new : seen_of after cq ≡ q'.seen
-    seen_new = subst (λ (k : ℕ). seen_of after k ≡ q'.seen) (zero-add cq) (by_at 0 seen_in nothing_seen after.queues cq q' (get_same v.queues cq q' (slice_get_within v.queues cq q found)))
 
     is_queue_after : IsQueue d cq q'
     is_queue_after = record { place = m.place ∙ is_queue.place; within = subst (AreWithin (words_of d)) (sym m.place) is_queue.within }
@@ -144,7 +131,7 @@ module _ (v : ScanView) (cq : ℕ) (kept : Snapshot Cqe) (q : DeviceView) (found
     over : q'.task ≡ None → Stands after Next
     over task = record { scan = scan_after false task; can = visit }
 
-    stands_by : (said : Option QueueEvent) → q'.task ≡ task_left q.task said → Stands after (told_published cq q'.seen said).comes
+    stands_by : (said : Option QueueEvent) → q'.task ≡ task_left q.task said → Stands after (told_published cq q'.side.seen said).comes
     stands_by None task = record {
       scan = subst (λ (w : Work). IsScan after (task_of w v.visit)) (sym work) (scan_after true (task ∙ task_is));
       can = subst (IsThere after) (sym work) (visit, inside_after);
@@ -172,10 +159,11 @@ module _ (v : ScanView) (cq : ℕ) (kept : Snapshot Cqe) (q : DeviceView) (found
       may = subst (λ (w : Work). MayAt d rule (at_of w) e) (sym work) may;
       inside = subst (λ (w : Work). is_about d (mark_at rule (at_of w)) e.addr ≡ true) (sym work) (subst (λ (pl : CqPlace). ring.touches (ring_of pl) e.addr ≡ true) is_queue.place m.inside);
       rule = ap (λ (t : Outcome). goes d t.comes (rule_of after)) told_is
-          ∙ (published_row event d (rule_of after) cq q'.seen ∙ (ap (published d event) moved ∙ ap (λ (w : Work). after_at d rule (at_of w) e) (sym work)));
-      note_is = ap (λ (t : Outcome). t.note) told_is
-          ∙ (published_note event cq q'.seen (rule.taken rule.visit) (seen_of after) seen_new ∙ ap (λ (w : Work). notes (seen_of after) (said_at d rule (at_of w) e)) (sym work));
-      seen = seen_moved ∙ ap (λ (w : Work). seen_at rule (seen_of v) (at_of w) e) (sym work);
+          ∙ (published_row event d (rule_of after) cq q'.side.seen ∙ (ap (published d event) moved ∙ ap (λ (w : Work). after_at d rule (at_of w) e) (sym work)));
+      note_is =
+          subst (λ (w : Work). IsAdapterNote (said_at d rule (at_of w) e) (sees_at rule (at_of w) e) told.note) (sym work)
+          (subst (λ (seen : ℕ). IsAdapterNote (publish_said cq (rule.taken rule.visit) event) seen told.note) seen_is
+          (subst (λ (t : Outcome). IsAdapterNote (publish_said cq (rule.taken rule.visit) event) q'.side.seen t.note) (sym told_is) (published_note event cq q'.side.seen (rule.taken rule.visit))));
       scan = stands.scan;
       can_go = stands.can;
       declared = refl;

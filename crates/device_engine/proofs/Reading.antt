@@ -23,18 +23,17 @@ use Rattle.device_engine.specs.declared.scan.Work.TheVariants as works
 use Rattle.device_engine.specs.declared.outcome.NextWork.TheVariants.{Publish, Next}
 use Rattle.device_engine.specs.declared.outcome.Outcome.{Outcome}
 use Rattle.device_engine.specs.Entry.{wants, nop_cqe}
-use Rattle.device_engine.specs.Event.{notes, fetch_said}
+use Rattle.device_engine.specs.Event.{IsAdapterNote, fetch_said}
 use Rattle.device_engine.specs.Goes.{goes}
 use Rattle.device_engine.specs.Pair.{AtRead, CanRead, LeavesTask, Reads, with_side, with_request, pair_read}
 use Rattle.device_engine.specs.Rows.{fetched, publish_or_next, after_reading}
-use Rattle.device_engine.specs.Rule.{mark_at, MayAt, after_at, said_at}
+use Rattle.device_engine.specs.Rule.{mark_at, MayAt, after_at, said_at, sees_at}
 use Rattle.device_engine.specs.Scan.{IsPair, IsReading, IsScan, IsThere, Idle, ReadsPair, CanPublish, task_of}
-use Rattle.device_engine.specs.Seen.{seen_at}
 use Rattle.device_engine.specs.State.{AdapterRule, Publishing, reader, working, next_visit, with_reader, with_taken, send_cq, fresh_adapter}
 use Rattle.device_engine.specs.NextWork.{comes_asked, fetch_note, told_read}
 use Rattle.device_engine.specs.Turn.{Operates, is_about}
 use Rattle.device_engine.specs.Counts.{CountsBelow}
-use Rattle.device_engine.specs.View.{ScanView, at_of, rule_of, seen_of}
+use Rattle.device_engine.specs.View.{ScanView, at_of, rule_of}
 use Rattle.device_engine.proofs.Kept.{pair_changed, with_pair}
 use Rattle.device_engine.proofs.Numbers.{by_at}
 use Rattle.device_engine.proofs.Visits.{Stands, reader_is, taken_is, side_moved, request_taken, is_low, reading_here, reading_was, goes_cond}
@@ -130,7 +129,7 @@ module _ (v : ScanView) (p : Pair) (e : BusEntry) (found : slice_get v.pairs v.v
   -- what an operation of this event comes to
   record Comes_to (event : Option WqEvent) (q : Pair) : Type 0 where
     rule_is : goes d (told_read p event).comes (rule_of (with_pair v q)) ≡ fetched d r.next event (with_reader r' rule)
-    note_is : (told_read p event).note ≡ notes (seen_of v) (fetch_said rule.visit (rule.taken rule.visit + 1) event)
+    note_is : IsAdapterNote (fetch_said rule.visit (rule.taken rule.visit + 1) event) (rule.taken rule.visit + 1) (told_read p event).note
     stands : Stands (with_pair v q) (told_read p event).comes
 
   -- the entry goes on
@@ -210,18 +209,18 @@ module _ (v : ScanView) (p : Pair) (e : BusEntry) (found : slice_get v.pairs v.v
     stands_read : Stands (with_pair v p') told.comes
     stands_read = subst (Stands (with_pair v p')) (sym (ap (λ (t : Outcome). t.comes) m.told_is)) comes_to.stands
 
-    abbrev note_from : WqPlace → WqReader → Option Note
-    note_from pl q = notes (seen_of v) (fetch_said rule.visit (rule.taken rule.visit + 1) (read_says pl q e))
+    abbrev NoteFrom : WqPlace → WqReader → Option Note → Type 0
+    NoteFrom pl q note = IsAdapterNote (fetch_said rule.visit (rule.taken rule.visit + 1) (read_says pl q e)) (rule.taken rule.visit + 1) note
 
     pub read_operates : Operates v (with_pair v p') e told
     read_operates = record {
       may = subst (λ (w : Work). MayAt d rule (at_of w) e) (sym work) (subst (λ (q : WqReader). MayRead (send_of d rule.visit) q e) (sym (reader_is v p found)) (subst (λ (pl : WqPlace). MayRead pl r e) pair.place m.may));
       inside = subst (λ (w : Work). is_about d (mark_at rule (at_of w)) e.addr ≡ true) (sym work) (subst (λ (pl : WqPlace). touches pl e.addr ≡ true) pair.place m.inside);
       rule = ap (λ (t : Outcome). goes d t.comes (rule_of (with_pair v p'))) m.told_is ∙ (comes_to.rule_is ∙ (from_rule ∙ ap (λ (w : Work). after_at d rule (at_of w) e) (sym work)));
-      note_is = ap (λ (t : Outcome). t.note) m.told_is
-          ∙ (comes_to.note_is
-          ∙ (ap (note_from place) (sym (reader_is v p found)) ∙ (ap (λ (pl : WqPlace). note_from pl (reader rule)) pair.place ∙ ap (λ (w : Work). notes (seen_of v) (said_at d rule (at_of w) e)) (sym work))));
-      seen = ap (λ (w : Work). seen_at rule (seen_of v) (at_of w) e) (sym work);
+      note_is =
+          subst (λ (w : Work). IsAdapterNote (said_at d rule (at_of w) e) (sees_at rule (at_of w) e) told.note) (sym work)
+          (subst (λ (pl : WqPlace). NoteFrom pl (reader rule) told.note) pair.place
+          (subst (λ (q : WqReader). NoteFrom place q told.note) (sym (reader_is v p found)) (subst (λ (t : Outcome). NoteFrom place r t.note) (sym m.told_is) comes_to.note_is)));
       scan = stands_read.scan;
       can_go = stands_read.can;
       declared = refl;

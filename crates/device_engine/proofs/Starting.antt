@@ -21,11 +21,10 @@ use Rattle.object_places.proofs.Lines.{lines_of, qp_number, is_qp, cq_number}
 use Rattle.device_engine.specs.declared.pair.Pair.{Pair}
 use Rattle.device_engine.specs.First.{IsFirstPair, IsFirstQueue, AreFirstPairs, AreFirstQueues}
 use Rattle.device_engine.specs.Scan.{IsScan, Idle}
-use Rattle.device_engine.specs.Seen.{nothing_seen}
 use Rattle.device_engine.specs.State.{may_send, send_cq, visiting, first_work, fresh_adapter}
-use Rattle.device_engine.specs.View.{ScanView, rule_of, seen_of}
+use Rattle.device_engine.specs.View.{ScanView, rule_of}
 use Rattle.device_engine.proofs.Numbers.{each_more, by_other}
-use Rattle.device_engine.proofs.Publications.{side_of, seen_in}
+use Rattle.device_engine.proofs.Publications.{side_of}
 use Rattle.device_engine.proofs.Visits.{taken_of, side_of as pair_side}
 
 -- the pair of a declared number
@@ -152,6 +151,3 @@ module _ (v : ScanView) (pairs : AreFirstPairs v.declared (length v.declared.qps
     where
       queue_side : (k : ℕ) (q : queue.DeviceView) → slice_get v.queues k ≡ Some q → q.side ≡ (fresh_adapter d).queues (0 + k)
       queue_side k q found = (queues.each k q found).side ∙ ap (fresh_adapter d).queues (sym (zero-add k))
-
-  pub first_seen : seen_of v ≡ nothing_seen
-  first_seen = λ i n. by_other 0 seen_in nothing_seen v.queues (λ k q found. (queues.each k q found).seen) n i

@@ -1,6 +1,5 @@
 -- What each kind of operation leaves of a visit.
-use Rattle.std.proofs.Common.{◌≡◌, ◌≢◌, ℕ, ◌+◌, ◌==◌, ◌⊎◌, inl, inr, refl, sym, ap, ◌∙◌, subst, arith, cond, Bool, true, false, eq-eqb, List, [], ◌∷◌, ◌++◌, Option, Some, None}
-use Rattle.std.proofs.lemmas.Bool.{cases_Bool, cond-true, cond-false}
+use Rattle.std.proofs.Common.{◌≡◌, ℕ, ◌+◌, ◌==◌, ◌⊎◌, inl, inr, refl, sym, ap, ◌∙◌, subst, arith, cond, Bool, true, false, eq-eqb, List, [], ◌∷◌, ◌++◌, Option, Some, None}
 use Rattle.bus_core.specs.declared.operation.BusEntry.{BusEntry}
 use Rattle.bus_core.specs.Operation.{loaded}
 use Rattle.verbs_types.specs.declared.declaration.Lines.{Lines}

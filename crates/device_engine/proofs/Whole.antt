@@ -1,5 +1,5 @@
 -- A visit is whole.
-use Rattle.std.proofs.Common.{◌≡◌, ℕ, ◌+◌, ◌≤◌, ◌⊎◌, inl, inr, refl, sym, ap, ◌∙◌, subst, arith, cond, Bool, true, false, List, [], ◌∷◌, fold}
+use Rattle.std.proofs.Common.{◌≡◌, ℕ, ◌+◌, ◌⊎◌, inl, inr, refl, ap, ◌∙◌, subst, arith, cond, Bool, false, List, [], ◌∷◌, fold}
 use Rattle.bus_core.specs.declared.operation.BusEntry.{BusEntry}
 use Rattle.verbs_types.specs.declared.declaration.Lines.{Lines}
 use Rattle.cqe_format.specs.declared.completion.Cqe.{Cqe}
@@ -7,7 +7,7 @@ use Rattle.device_engine.specs.Rows.{is_ready}
 use Rattle.device_engine.specs.Rule.{after_adapt}
 use Rattle.device_engine.specs.State.{AdapterAt, AdapterRule, Looking, Recording, Reading, Publishing}
 use Rattle.device_engine.specs.Visit.{IsVisit, IsWholeVisit, Takes, FindsNone, is_look, is_record, count_of}
-use Rattle.device_engine.proofs.Steps.{GoesOn, IsOver, FindsNoEntry, Publishes, looking_step, recording_step, reading_step, publishing_step}
+use Rattle.device_engine.proofs.Steps.{GoesOn, IsOver, FindsNoEntry, looking_step, recording_step, reading_step, publishing_step}
 
 abbrev last : Lines → AdapterRule → List BusEntry → AdapterRule
 last d s es = fold (after_adapt d) s es

@@ -1,5 +1,5 @@
 -- How far the adapter's counts and indices have come.
-use Rattle.std.specs.Prelude.{ℕ, ◌≡◌, ◌+◌, ◌^◌, ◌<◌, IsTrue}
+use Rattle.std.specs.Prelude.{ℕ, ◌+◌, ◌^◌, ◌<◌, IsTrue}
 use Rattle.bus_core.specs.declared.operation.BusEntry.{BusEntry}
 use Rattle.verbs_types.specs.declared.declaration.Lines.{Lines}
 use Rattle.verbs_types.specs.Lines.{is_declared}

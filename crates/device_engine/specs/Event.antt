@@ -1,10 +1,10 @@
 -- What a marked operation of the adapter says, and the note of it.
-use Rattle.std.specs.Prelude.{ℕ, Option, Some, None, option_map}
+use Rattle.std.specs.Prelude.{ℕ, ◌≡◌, Option, Some, None}
 use Rattle.bus_core.specs.declared.turn.Note.{Note}
+use Rattle.verbs_types.specs.declared.completion.Completion.{Completion}
 use Rattle.verbs_types.specs.declared.completion.Queue.TheVariants.{Send}
-use Rattle.verbs_types.specs.declared.entry.What.TheVariants.{Fetch}
+use Rattle.verbs_types.specs.declared.entry.What.TheVariants.{Fetch, Publish}
 use Rattle.actor_map.specs.Notes.{note_of}
-use Rattle.actor_map.specs.declared.note.TheConstants.{PUBLISH}
 use Rattle.cqe_format.specs.declared.completion.Cqe.{Cqe}
 use Rattle.cq_pair.specs.Queue as completions
 use Rattle.cq_pair.specs.Queue.{QueueEvent}
@@ -26,10 +26,8 @@ abbrev pub publish_said : ℕ → ℕ → Option QueueEvent → Option AdapterEv
 publish_said cq number (Some (completions.Published index completion)) = Some (Published cq completion number index)
 publish_said cq number _ = None
 
--- The note of an event. The record showed at least the request that was taken, and the queue's last publication saw this acknowledged index.
-abbrev pub event_note : (ℕ → ℕ) → AdapterEvent → Note
-event_note seen (Fetched qp number) = note_of (Fetch (Send qp) number) number
-event_note seen (Published cq completion number index) = record { kind = PUBLISH; object = cq; a = seen cq; b = 0; c = 0; d = 0 }
-
-abbrev pub notes : (ℕ → ℕ) → Option AdapterEvent → Option Note
-notes seen said = option_map (event_note seen) said
+-- The note is that of the event, whose operation saw this count of another actor. The note of a publication tells nothing of the completion, so it is that of any.
+abbrev pub IsAdapterNote : Option AdapterEvent → ℕ → Option Note → Type 0
+IsAdapterNote None seen note = note ≡ None
+IsAdapterNote (Some (Fetched qp number)) seen note = note ≡ Some (note_of (Fetch (Send qp) number) seen)
+IsAdapterNote (Some (Published cq completion number index)) seen note = (x : Completion) → note ≡ Some (note_of (Publish cq x) seen)

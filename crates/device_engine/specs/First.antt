@@ -5,9 +5,8 @@ use Rattle.verbs_types.specs.declared.declaration.TheConstants.{FIRST_QP}
 use Rattle.cq_pair.specs.DeviceView as queue
 use Rattle.device_engine.specs.declared.pair.Pair.{Pair}
 use Rattle.device_engine.specs.Scan.{IsPair, IsQueue}
-use Rattle.device_engine.specs.Seen.{nothing_seen}
 use Rattle.device_engine.specs.State.{fresh_adapter}
-use Rattle.device_engine.specs.View.{ScanView, rule_of, seen_of}
+use Rattle.device_engine.specs.View.{ScanView, rule_of}
 
 -- a queue pair of which nothing was seen
 pub record IsFirstPair (d : Lines) (qp : ℕ) (p : Pair) : Type 0 where
@@ -21,7 +20,6 @@ pub record IsFirstQueue (d : Lines) (cq : ℕ) (q : queue.DeviceView) : Type 0 w
   pub queue_is : IsQueue d cq q
   pub task : q.task ≡ None
   pub side : q.side ≡ (fresh_adapter d).queues cq
-  pub seen : q.seen ≡ 0
 
 -- the first `count` of them
 pub record AreFirstPairs (d : Lines) (count : ℕ) (pairs : List Pair) : Type 0 where
@@ -36,4 +34,3 @@ pub record AreFirstQueues (d : Lines) (count : ℕ) (queues : List queue.DeviceV
 pub record IsFresh (d : Lines) (v : ScanView) : Type 0 where
   pub declared : v.declared ≡ d
   pub rule : rule_of v ≡ fresh_adapter d
-  pub seen : seen_of v ≡ nothing_seen

@@ -3,7 +3,6 @@ pub mod State
 pub mod Event
 pub mod Rows
 pub mod Rule
-pub mod Seen
 pub mod NextWork
 pub mod Pair
 pub mod Laws

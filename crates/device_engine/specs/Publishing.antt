@@ -5,7 +5,7 @@ use Rattle.cqe_format.specs.declared.completion.Cqe.{Cqe}
 use Rattle.owner_ring.specs.Place.{touches}
 use Rattle.cq_pair.specs.Place.{ring_of}
 use Rattle.cq_pair.specs.Device.{MayDeliver, after_deliver, delivered}
-use Rattle.cq_pair.specs.DeviceView.{DeviceView, next_mark, seen_after}
+use Rattle.cq_pair.specs.DeviceView.{DeviceView, next_mark}
 use Rattle.cq_pair.specs.Queue.{QueueEvent}
 use Rattle.device_engine.specs.declared.outcome.Outcome.{Outcome}
 use Rattle.device_engine.specs.Goes.{told_published}
@@ -19,7 +19,6 @@ pub record Publishes (cq : ℕ) (old new : DeviceView) (e : BusEntry) (told : Ou
   pub may : MayDeliver old.place old.side (next_mark old) e
   pub inside : touches (ring_of old.place) e.addr ≡ true
   pub side : new.side ≡ after_deliver old.place old.side (next_mark old) e
-  pub told_is : told ≡ told_published cq new.seen (delivered old.place old.side (next_mark old) e)
+  pub told_is : told ≡ told_published cq new.side.seen (delivered old.place old.side (next_mark old) e)
   pub task : new.task ≡ task_left old.task (delivered old.place old.side (next_mark old) e)
-  pub seen : new.seen ≡ seen_after old.side.overrun old.side.producer old.seen e
   pub place : new.place ≡ old.place

@@ -1,9 +1,9 @@
 -- The rule of the adapter, over its own operations.
-use Rattle.std.specs.Prelude.{◌+◌, false, Option, None}
+use Rattle.std.specs.Prelude.{ℕ, ◌+◌, false, Option, None}
 use Rattle.bus_core.specs.declared.operation.BusEntry.{BusEntry}
 use Rattle.bus_core.specs.Operation.{IsLoad}
 use Rattle.verbs_types.specs.declared.declaration.Lines.{Lines}
-use Rattle.cq_pair.specs.Device.{MayDeliver}
+use Rattle.cq_pair.specs.Device.{MayDeliver, seen_by}
 use Rattle.counted_ring.specs.Device.{MayLook, MayRecord, MayRead}
 use Rattle.counted_ring.specs.Mark as requests
 use Rattle.object_places.specs.declared.ended.TheConstants.{ENDED_WORD}
@@ -43,7 +43,15 @@ said_at d s Reading e = fetch_said s.visit (s.taken s.visit + 1) (read_event d s
 said_at d s (Publishing cq completion) e = publish_said cq (s.taken s.visit) (publish_event d s cq completion e)
 said_at d s Ending e = None
 
--- the adapter as an automaton: the mark of its next operation, when it may be made, what it leaves, and what it says
+-- What the operation has seen of another actor: a fetch the requests up to that which it takes, a publication an acknowledged index of its queue.
+abbrev pub sees_at : AdapterRule → AdapterAt → BusEntry → ℕ
+sees_at s Looking e = 0
+sees_at s Recording e = 0
+sees_at s Reading e = s.taken s.visit + 1
+sees_at s (Publishing cq completion) e = seen_by (s.queues cq) (publish_mark s cq completion) e
+sees_at s Ending e = 0
+
+-- the adapter as an automaton: the mark of its next operation, when it may be made, what it leaves, what it says, and what it has seen for that
 abbrev pub adapter_mark : Lines → AdapterRule → Mark
 adapter_mark d s = mark_at s s.at_work
 
@@ -55,3 +63,6 @@ after_adapt d s e = after_at d s s.at_work e
 
 abbrev pub adapter_says : Lines → AdapterRule → BusEntry → Option AdapterEvent
 adapter_says d s e = said_at d s s.at_work e
+
+abbrev pub adapter_sees : AdapterRule → BusEntry → ℕ
+adapter_sees s e = sees_at s s.at_work e

@@ -8,12 +8,11 @@ use Rattle.actor_map.specs.Sizes.{words_of}
 use Rattle.object_places.specs.declared.ended.TheConstants.{ENDED_WORD}
 use Rattle.object_places.specs.Objects.{Mark, OnCompletions, OnSends, OnReceives, Ends, Completions, Sends, Receives, touches}
 use Rattle.device_engine.specs.declared.outcome.Outcome.{Outcome}
-use Rattle.device_engine.specs.Event.{notes}
+use Rattle.device_engine.specs.Event.{IsAdapterNote}
 use Rattle.device_engine.specs.Goes.{goes}
-use Rattle.device_engine.specs.Rule.{adapter_mark, MayAdapt, after_adapt, adapter_says}
+use Rattle.device_engine.specs.Rule.{adapter_mark, MayAdapt, after_adapt, adapter_says, adapter_sees}
 use Rattle.device_engine.specs.Scan.{IsScan, CanGo, task_before}
-use Rattle.device_engine.specs.Seen.{after_seen}
-use Rattle.device_engine.specs.View.{ScanView, rule_of, seen_of}
+use Rattle.device_engine.specs.View.{ScanView, rule_of}
 
 -- a port through which the adapter can make its next operation
 pub record CanScan {Bus : Type 0} (d : Lines) (port : Port Bus) : Type 0 where
@@ -32,8 +31,7 @@ pub record Operates (old new : ScanView) (e : BusEntry) (told : Outcome) : Type 
   pub may : MayAdapt old.declared (rule_of old) e
   pub inside : is_about old.declared (adapter_mark old.declared (rule_of old)) e.addr ≡ true
   pub rule : goes old.declared told.comes (rule_of new) ≡ after_adapt old.declared (rule_of old) e
-  pub note_is : told.note ≡ notes (seen_of new) (adapter_says old.declared (rule_of old) e)
-  pub seen : seen_of new ≡ after_seen (rule_of old) (seen_of old) e
+  pub note_is : IsAdapterNote (adapter_says old.declared (rule_of old) e) (adapter_sees (rule_of old) e) told.note
   pub scan : IsScan new (task_before told.comes new)
   pub can_go : CanGo new told.comes
   pub declared : new.declared ≡ old.declared
@@ -43,6 +41,5 @@ pub record AdapterTurn (old new : ScanView) (e : BusEntry) (note : Option Note) 
   pub may : MayAdapt old.declared (rule_of old) e
   pub inside : is_about old.declared (adapter_mark old.declared (rule_of old)) e.addr ≡ true
   pub rule : rule_of new ≡ after_adapt old.declared (rule_of old) e
-  pub note_is : note ≡ notes (seen_of new) (adapter_says old.declared (rule_of old) e)
-  pub seen : seen_of new ≡ after_seen (rule_of old) (seen_of old) e
+  pub note_is : IsAdapterNote (adapter_says old.declared (rule_of old) e) (adapter_sees (rule_of old) e) note
   pub declared : new.declared ≡ old.declared

@@ -1,5 +1,5 @@
 -- The adapter's machine, seen as its rule's state.
-use Rattle.std.specs.Prelude.{ℕ, ◌+◌, ◌^◌, ◌<◌, List}
+use Rattle.std.specs.Prelude.{ℕ, ◌+◌, List}
 use Rattle.verbs_types.specs.declared.declaration.Lines.{Lines}
 use Rattle.verbs_types.specs.declared.declaration.TheConstants.{FIRST_QP}
 use Rattle.verbs_rules.specs.Start.{for_line}
@@ -9,7 +9,6 @@ use Rattle.device_engine.specs.declared.scan.Work.{Work}
 use Rattle.device_engine.specs.declared.scan.Work.TheVariants as works
 use Rattle.device_engine.specs.declared.scan.Scan.{Scan}
 use Rattle.device_engine.specs.State.{AdapterAt, AdapterRule, Looking, Recording, Reading, Publishing, Ending, fresh_adapter}
-use Rattle.device_engine.specs.Seen.{nothing_seen}
 
 -- the lists that the machine keeps: queue pairs and completion queues in the order of their numbers
 pub record ScanView : Type 0 where
@@ -43,7 +42,3 @@ rule_of v = record {
   readers = by_number FIRST_QP v.pairs (λ p. p.requests.side) (fresh_adapter v.declared).readers;
   queues = by_number 0 v.queues (λ q. q.side) (fresh_adapter v.declared).queues;
 }
-
--- which acknowledged indices were seen
-abbrev pub seen_of : ScanView → ℕ → ℕ
-seen_of v = by_number 0 v.queues (λ q. q.seen) nothing_seen

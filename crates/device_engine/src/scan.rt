@@ -8,7 +8,7 @@ ghost use Rattle.device_engine.specs.Scan.{IsScan, IsStanding, IsPublishing, Can
 ghost use Rattle.device_engine.specs.State.{Publishing, visiting, working};
 ghost use Rattle.device_engine.specs.Turn.{CanScan, Operates};
 ghost use Rattle.device_engine.specs.Counts.{CountsBelow};
-ghost use Rattle.device_engine.specs.View.{scan_of, rule_of, seen_of};
+ghost use Rattle.device_engine.specs.View.{scan_of, rule_of};
 
 use crate::outcome::{NextWork, Outcome};
 use crate::pair::Pair;
@@ -135,7 +135,6 @@ impl Scan {
         requires can { CanGo (scan_of self.old) comes }
         ensures standing { IsStanding (scan_of self.new) }
         ensures rule { rule_of (scan_of self.new) ≡ goes (scan_of self.old).declared comes (rule_of (scan_of self.old)) }
-        ensures seen { seen_of (scan_of self.new) ≡ seen_of (scan_of self.old) }
         ensures declared { (scan_of self.new).declared ≡ (scan_of self.old).declared }
     {
         match comes {
@@ -154,7 +153,6 @@ impl Scan {
         requires can { CanPublish (scan_of self.old) cq completion }
         ensures standing { IsStanding (scan_of self.new) }
         ensures rule { rule_of (scan_of self.new) ≡ working (Publishing cq completion) (rule_of (scan_of self.old)) }
-        ensures seen { seen_of (scan_of self.new) ≡ seen_of (scan_of self.old) }
         ensures declared { (scan_of self.new).declared ≡ (scan_of self.old).declared }
     {
         let queue = &mut self.queues[cq as usize];
@@ -171,7 +169,6 @@ impl Scan {
         requires place { place ≤ length (scan_of self.old).pairs }
         ensures standing { IsStanding (scan_of self.new) }
         ensures rule { rule_of (scan_of self.new) ≡ visiting (scan_of self.old).declared (FIRST_QP + place) (rule_of (scan_of self.old)) }
-        ensures seen { seen_of (scan_of self.new) ≡ seen_of (scan_of self.old) }
         ensures declared { (scan_of self.new).declared ≡ (scan_of self.old).declared }
     {
         self.visit = place;

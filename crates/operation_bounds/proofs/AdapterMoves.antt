@@ -43,14 +43,14 @@ publish_few false (Ready index) h = (omega arith, omega arith)
 publish_few false (Filling index words) h = (omega (arith, h), omega arith)
 
 -- an operation of it ends it, or brings it nearer to its end
-abbrev Delivers : ℕ → Cqe → QueueDevice → Option QueueEvent → Type 0
-Delivers before completion q None = publish_left q < before
-Delivers before completion q (Some event) = (index : ℕ) (other : Cqe) → event ≡ completions.Published index other → other ≡ completion
+abbrev Delivers : ℕ → Cqe → Bool → Producer → Option QueueEvent → Type 0
+Delivers before completion overrun p None = turns_for overrun p < before
+Delivers before completion overrun p (Some event) = (index : ℕ) (other : Cqe) → event ≡ completions.Published index other → other ≡ completion
 
 module _ (place : CqPlace) (completion : Cqe) (e : BusEntry) where
   -- the side after an operation that says this to the ring
   abbrev Made : ℕ → Producer → Option ring.RingEvent → Type 0
-  Made before p said = IsFilling p × Delivers before completion (record { producer = p; overrun = is_full said }) (published_as completion said)
+  Made before p said = IsFilling p × Delivers before completion (is_full said) p (published_as completion said)
 
   same_one : (index i : ℕ) (other : Cqe) → completions.Published index completion ≡ completions.Published i other → other ≡ completion
   same_one index i other same = cc
@@ -76,10 +76,16 @@ module _ (place : CqPlace) (completion : Cqe) (e : BusEntry) where
       by true all = (tt, same_one index)
       by false more = let differ = eqb-false (length words) 7 more in (omega (arith, h, differ, long), omega (arith, h, differ, long))
 
-  pub delivers : (overrun : Bool) (p : Producer) → IsFilling p → IsFilling (after_deliver place (record { producer = p; overrun = overrun }) (mark_of (Some completion) overrun) e).producer
-      × Delivers (turns_for overrun p) completion (after_deliver place (record { producer = p; overrun = overrun }) (mark_of (Some completion) overrun) e) (delivered place (record { producer = p; overrun = overrun }) (mark_of (Some completion) overrun) e)
-  delivers true p h = (h, lost_none)
-  delivers false p h = produces p h
+  abbrev side_with : Bool → Producer → ℕ → QueueDevice
+  side_with overrun p seen = record { producer = p; overrun = overrun; seen = seen }
+
+  abbrev side_then : Bool → Producer → ℕ → QueueDevice
+  side_then overrun p seen = after_deliver place (side_with overrun p seen) (mark_of (Some completion) overrun) e
+
+  pub delivers : (overrun : Bool) (p : Producer) (seen : ℕ) → IsFilling p → IsFilling (side_then overrun p seen).producer
+      × Delivers (turns_for overrun p) completion (side_then overrun p seen).overrun (side_then overrun p seen).producer (delivered place (side_with overrun p seen) (mark_of (Some completion) overrun) e)
+  delivers true p seen h = (h, lost_none)
+  delivers false p seen h = produces p h
 
 -- The work
 
@@ -230,13 +236,13 @@ module _ (d : Lines) (s : AdapterRule) (e : BusEntry) (h : AdapterStands s) wher
       side : QueueDevice
       side = after_deliver (completions_of d cq) (s.queues cq) (publish_mark s cq completion) e
 
-      goes : IsFilling side.producer × Delivers (publish_left (s.queues cq)) completion side (publish_event d s cq completion e)
-      goes = delivers (completions_of d cq) completion e (s.queues cq).overrun (s.queues cq).producer (h.queues cq)
+      goes : IsFilling side.producer × Delivers (publish_left (s.queues cq)) completion side.overrun side.producer (publish_event d s cq completion e)
+      goes = delivers (completions_of d cq) completion e (s.queues cq).overrun (s.queues cq).producer (s.queues cq).seen (h.queues cq)
 
       queues : (n : ℕ) → IsFilling (put_number s.queues cq side n).producer
       queues = put_all s.queues cq side (λ n q. IsFilling q.producer) goes.0 (λ other apart. h.queues other)
 
-      by : (o : Option QueueEvent) → Delivers (publish_left (s.queues cq)) completion side o → Result (published d o (with_queue cq side s)) (publish_said cq (s.taken s.visit) o)
+      by : (o : Option QueueEvent) → Delivers (publish_left (s.queues cq)) completion side.overrun side.producer o → Result (published d o (with_queue cq side s)) (publish_said cq (s.taken s.visit) o)
       by None less = (
         record { queues = queues; pair = h.pair },
         Goes (record { cq = cq; completion = completion; was = is; now = is; visit = refl; taken = refl; falls = subst (λ (q : QueueDevice). publish_left q < publish_left (s.queues cq)) (sym (put_here s.queues cq side)) less; silent = refl }),

@@ -10,6 +10,7 @@ use Rattle.bus_core.specs.Plain.{Plain}
 use Rattle.bus_core.proofs.Following.{fold-push}
 use Rattle.verbs_types.specs.declared.call.Call.{Call}
 use Rattle.verbs_types.specs.declared.completion.Queue.{Queue}
+use Rattle.verbs_types.specs.declared.completion.Queue.TheVariants.{Send}
 use Rattle.verbs_types.specs.declared.declaration.Lines.{Lines}
 use Rattle.verbs_types.specs.declared.entry.Entry.{Entry}
 use Rattle.verbs_types.specs.declared.entry.What.{What}
@@ -17,12 +18,13 @@ use Rattle.verbs_types.specs.declared.request.Item.{Item}
 use Rattle.actor_map.specs.Notes.{note_of}
 use Rattle.object_places.specs.Objects.{Mark}
 use Rattle.owner_ring.specs.Consumer.{Consumer, Waiting, Reading}
+use Rattle.provider_poll.specs.Completion.{completion_of}
 use Rattle.device_engine.specs.Counts.{CountsBelow, CountsGrow}
-use Rattle.device_engine.specs.Event.{AdapterEvent, Fetched, Published, notes}
-use Rattle.device_engine.specs.Rule.{adapter_mark, MayAdapt, after_adapt, adapter_says}
+use Rattle.device_engine.specs.Event.{AdapterEvent, Fetched, Published, IsAdapterNote}
+use Rattle.device_engine.specs.Rule.{adapter_mark, MayAdapt, after_adapt, adapter_says, adapter_sees}
 use Rattle.device_engine.specs.State.{AdapterRule}
-use Rattle.device_engine.specs.View.{ScanView, rule_of, seen_of}
-use Rattle.actor_rules.specs.Actors.{Actors, MayAdapter, after, after_by, says, what_of, by, adapter_entry}
+use Rattle.device_engine.specs.View.{ScanView, rule_of}
+use Rattle.actor_rules.specs.Actors.{Actors, MayAdapter, after, after_by, says, what_of, by, id_in, adapter_entry}
 use Rattle.actor_rules.specs.Roles.{May, MayAny, Knows, part}
 use Rattle.actor_rules.specs.Calls.{MayThread, after_thread, thread_says}
 use Rattle.actor_rules.specs.Thread.{Thread}
@@ -110,10 +112,10 @@ module _ (s : ScenarioParts) (old new : RunView) (trace : List (Marked Mark)) (a
 
 -- The adapter
 
-adapter_fits : (posted : Queue → List Item) (seen : ℕ → ℕ) (said : Option AdapterEvent) (note : Option Note) → note ≡ notes seen said → Fits 0 (option_map (by 0) (option_map (adapter_entry posted) said)) note
+adapter_fits : (posted : Queue → List Item) (seen : ℕ) (said : Option AdapterEvent) (note : Option Note) → IsAdapterNote said seen note → Fits 0 (option_map (by 0) (option_map (adapter_entry posted) said)) note
 adapter_fits posted seen None n is = is
-adapter_fits posted seen (Some (Fetched qp number)) n is = (refl, number, is)
-adapter_fits posted seen (Some (Published cq completion number index)) n is = (refl, seen cq, is)
+adapter_fits posted seen (Some (Fetched qp number)) n is = (refl, seen, is)
+adapter_fits posted seen (Some (Published cq completion number index)) n is = (refl, seen, is (completion_of completion (id_in (posted (Send completion.qpn)) number)))
 
 module _ (s : ScenarioParts) (old new : RunView) (h : Holds s old) (m : AdapterMoves old new) (grow : CountsGrow) where
   abbrev w : Actors
@@ -130,8 +132,8 @@ module _ (s : ScenarioParts) (old new : RunView) (h : Holds s old) (m : AdapterM
 
   fits : Fits 0 (says s.lines w x) m.note
   fits = subst (λ (k : ℕ). Fits 0 (said_by s.lines w k x) m.note) (sym m.by)
-      (adapter_fits w.posted (seen_of new.adapter) (adapter_says s.lines w.adapter m.entry) m.note
-      (rule_is (λ (d : Lines) (r : AdapterRule). m.note ≡ notes (seen_of new.adapter) (adapter_says d r m.entry)) m.turn.note_is))
+      (adapter_fits w.posted (adapter_sees w.adapter m.entry) (adapter_says s.lines w.adapter m.entry) m.note
+      (rule_is (λ (d : Lines) (r : AdapterRule). IsAdapterNote (adapter_says d r m.entry) (adapter_sees r m.entry) m.note) m.turn.note_is))
 
   now : actors_after s.lines s.programs (h.trace ++ x ∷ []) ≡ after_by s.lines w 0 x
   now = actors_more s h.trace x 0 m.by

@@ -5,7 +5,7 @@ use Rattle.device_engine.specs.declared.scan.Work.TheVariants.{Ending}
 use Rattle.device_engine.specs.First.{AreFirstPairs, AreFirstQueues}
 use Rattle.device_engine.specs.State.{fresh_adapter}
 use Rattle.device_engine.specs.View.{ScanView}
-use Rattle.device_engine.proofs.Starting.{first_stands, first_rule, first_seen}
+use Rattle.device_engine.proofs.Starting.{first_stands, first_rule}
 use Rattle.device_engine.proofs.start.first_scan.Goals as goal
 
 pub visit_pair-requires-clause-scan : goal.visit_pair-requires-clause-scan
@@ -23,5 +23,4 @@ returns-clause-fresh c =
     record {
       declared = c.visit_pair.ensures.declared ∙ c.of.ensures;
       rule = c.visit_pair.ensures.rule ∙ (first_rule v pairs queues ∙ ap fresh_adapter c.of.ensures);
-      seen = c.visit_pair.ensures.seen ∙ first_seen v pairs queues;
     }

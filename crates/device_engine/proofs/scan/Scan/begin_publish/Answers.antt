@@ -1,5 +1,5 @@
 use Rattle.device_engine.specs.View.{scan_of}
-use Rattle.device_engine.proofs.Beginning.{stands_began, rule_began, seen_began}
+use Rattle.device_engine.proofs.Beginning.{stands_began, rule_began}
 use Rattle.device_engine.proofs.Publications.{found_queue}
 use Rattle.device_engine.proofs.scan.Scan.begin_publish.Goals as goal
 
@@ -14,9 +14,3 @@ returns-clause-rule c =
     let v = scan_of c.args.self.now in
     let q = c.index_mut-queue.result.now in
     rule_began v c.args.cq c.of.result c.args.completion q c.begin_publish.new.self (found_queue v c.args.cq q c.requires.can.lives c.index_mut-queue.ensures.value) c.requires.scan c.requires.visit c.of.ensures c.begin_publish.ensures
-
-pub returns-clause-seen : goal.returns-clause-seen
-returns-clause-seen c =
-    let v = scan_of c.args.self.now in
-    let q = c.index_mut-queue.result.now in
-    seen_began v c.args.cq c.of.result c.args.completion q c.begin_publish.new.self (found_queue v c.args.cq q c.requires.can.lives c.index_mut-queue.ensures.value) c.requires.scan c.requires.visit c.of.ensures c.begin_publish.ensures
