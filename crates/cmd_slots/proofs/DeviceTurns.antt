@@ -23,7 +23,7 @@ use Rattle.cmd_slots.specs.Bytes.{bytes_of}
 use Rattle.cmd_slots.specs.Question.{entry_of, inputs, outputs, blocks, question_word, rules_before, judged, input_of, out_len, body_with, body_of, decided, is_judged, blocks_in, verdict_with, verdict}
 use Rattle.cmd_slots.specs.Turn.{HasWord}
 use Rattle.cmd_slots.specs.Device.{Reading, Judged, judged_as}
-use Rattle.cmd_slots.specs.DeviceView.{DeviceView, DeviceTurn, Read, done_of, judged_answer}
+use Rattle.cmd_slots.specs.DeviceView.{DeviceView, DeviceTurn, CanAnswer, Read, done_of, judged_answer}
 use Rattle.cmd_slots.specs.DeviceInside.{HasShort, IsReading, IsJudged}
 use Rattle.cmd_slots.proofs.Refusals.{kept_parts}
 use Rattle.cmd_slots.proofs.Questions.{verdict_is, entry_before, lengths_kept}
@@ -139,6 +139,11 @@ verdict_given slot words question is = elim (cases_Bool (is_judged (length words
   none_or_some : {A : Type 0} {x : A} → ◌≡◌ {A = Option A} None (Some x) → ⊥
   none_or_some same = cc
 
+-- what was judged may be answered with what it came to
+can_answer : (entry : List ℕ) (question : Result Command Answer) → CanAnswer (Judged entry question) (Done (done_of question))
+can_answer entry (Ok c) = λ reply fits. fits
+can_answer entry (Err refusal) = refl
+
 -- the device loads a word of a question
 module _ (slot answered count word : ℕ) (loaded_words : List ℕ) (full : length loaded_words ≡ 296) (reading : IsReading answered (take count loaded_words) count) where
   abbrev words : List ℕ
@@ -199,6 +204,7 @@ module _ (slot answered count word : ℕ) (loaded_words : List ℕ) (full : leng
       side = sym (ap (λ v. record { answered = answered; stage = judged_as (words ++ loaded e ∷ []) v }) verdict_here ∙ ap (λ entry. record { answered = answered; stage = Judged entry question }) entry_is);
       answers = sym (ap judged_answer verdict_here);
       task = refl;
+      can_answer = can_answer (take 8 (slice_set loaded_words count word)) question;
       fewer = omega (arith, short, reading.few);
       seen = refl;
       slot = refl;

@@ -5,7 +5,10 @@ use Rattle.bus_core.specs.declared.turn.Step.{Step}
 use Rattle.bus_core.specs.declared.turn.Step.TheVariants.{More, Gave, Done}
 use Rattle.bus_core.specs.Operation.{loaded}
 use Rattle.cmd_bodies.specs.declared.command.Command.{Command}
+use Rattle.cmd_bodies.specs.declared.reply.Reply.{Reply as Output}
+use Rattle.cmd_bodies.specs.Reply.{IsReplyTo}
 use Rattle.cmd_slots.specs.declared.answer.Answer.{Answer}
+use Rattle.cmd_slots.specs.declared.answer.Answer.TheVariants.{Delivered}
 use Rattle.cmd_slots.specs.declared.device.SlotDone.{SlotDone}
 use Rattle.cmd_slots.specs.declared.device.SlotDone.TheVariants.{Asked, AskedBad, Replied}
 use Rattle.cmd_slots.specs.Place.{touches}
@@ -80,6 +83,17 @@ turns_left None stage = 0
 turns_left (Some Read) stage = read_turns stage
 turns_left (Some (Reply answer words)) stage = reply_turns words stage
 
+-- the question that was judged, and that this is an answer to it
+abbrev pub MayAnswer : ServeStage → Answer → Type 0
+MayAnswer (Judged entry question) answer = Answers question answer
+MayAnswer stage answer = ⊥
+
+-- what may be answered when a read came to this: a reply to the command, or what refuses it
+abbrev pub CanAnswer : ServeStage → Step (Unit {0}) SlotDone → Type 0
+CanAnswer stage (Done (Asked c)) = (reply : Output) → IsReplyTo c reply → MayAnswer stage (Delivered reply)
+CanAnswer stage (Done (AskedBad refusal)) = MayAnswer stage refusal
+CanAnswer stage step = Unit {0}
+
 -- one operation, which keeps the side's rule
 pub record DeviceTurn (old new : DeviceView) (e : BusEntry) (answer : Step (Unit {0}) SlotDone) : Type 0 where
   pub may : MayServe_at old.slot old.side.stage (next_mark old) e
@@ -87,6 +101,7 @@ pub record DeviceTurn (old new : DeviceView) (e : BusEntry) (answer : Step (Unit
   pub side : new.side ≡ after_server old.slot old.side (next_mark old) e
   pub answers : answer ≡ answer_at old.slot old.side.stage (loaded e)
   pub task : new.task ≡ task_after old.task answer
+  pub can_answer : CanAnswer new.side.stage answer
   pub fewer : turns_left new.task new.side.stage < turns_left old.task old.side.stage
   pub seen : new.seen ≡ seen_after old.side.stage old.side.answered old.seen answer
   pub slot : new.slot ≡ old.slot
@@ -95,8 +110,3 @@ pub record DeviceTurn (old new : DeviceView) (e : BusEntry) (answer : Step (Unit
 abbrev pub Replies : Answer → Option DeviceTask → Type 0
 Replies answer (Some (Reply given words)) = given ≡ answer
 Replies answer _ = ⊥
-
--- the question that was judged, and that this is an answer to it
-abbrev pub MayAnswer : ServeStage → Answer → Type 0
-MayAnswer (Judged entry question) answer = Answers question answer
-MayAnswer stage answer = ⊥

@@ -6,6 +6,8 @@ mod arms;
 #[cfg(test)]
 mod cells;
 #[cfg(test)]
+mod commands;
+#[cfg(test)]
 mod events;
 #[cfg(test)]
 mod memory_keys;
