@@ -14,6 +14,7 @@ use Rattle.scenario_text.proofs.Words.{word_of, word_is}
 
 -- the line is one of this word
 pub record IsKnown (s : Said) (bytes : List ℕ) : Type 0 where
+  pub words : is_skipped bytes ≡ false
   pub keyword : Keyword
   pub word : part_at (split 32 bytes) 0 ≡ word_of keyword
   pub found : keyword_in s.place (part_at (split 32 bytes) 0) ≡ Some keyword
@@ -30,6 +31,7 @@ module _ (s : Said) (bytes : List ℕ) where
       → broken_by (count_line s) found (split 32 bytes) ≡ None → is_skipped bytes ≡ false → IsKnown s bytes
   by_word None is built unbroken words = absurd (cc)
   by_word (Some keyword) is built unbroken words = record {
+    words = words;
     keyword = keyword;
     word = word_is (part_at (split 32 bytes) 0) s.place keyword is;
     found = is;

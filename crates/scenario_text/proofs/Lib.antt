@@ -41,3 +41,8 @@ pub mod HeadLines
 pub mod OtherLines
 pub mod EachLine
 pub mod WholeHead
+pub mod Counting
+pub mod Cutting
+pub mod Comments
+pub mod LateLines
+pub mod HeadsAlone

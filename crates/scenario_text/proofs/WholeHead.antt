@@ -66,7 +66,7 @@ module _ (bytes : List ℕ) (s : Said) (done : List ℕ) (kept : Repeated s done
   line_repeats Rounds ok word = other Rounds (add_line Rounds (split 32 bytes) s) word refl (rounds_repeats (split 32 bytes) s done kept)
 
 -- a line that says nothing is none of the head
-skipped_head : (bytes : List ℕ) → is_skipped bytes ≡ true → is_head_line bytes ≡ false
+pub skipped_head : (bytes : List ℕ) → is_skipped bytes ≡ true → is_head_line bytes ≡ false
 skipped_head [] h = refl
 skipped_head (b ∷ bs) h = ap (λ c. is_head_line (c ∷ bs)) (eqb-true b 35 h) ∙ by (split 32 bs) (first_part 32 bs)
   where
