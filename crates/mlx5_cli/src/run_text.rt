@@ -5,6 +5,7 @@ ghost use Rattle.scenario_text.specs.Whole.{HasFault};
 ghost use Rattle.world_core.specs.Outcome.{IsOutcome};
 ghost use Rattle.mlx5_cli.specs.RunText.{IsRunOf, IsRunText};
 
+use scenario_text::laws::heads_are_printed;
 use scenario_text::{Scenario, ScenarioFault, parse_scenario};
 use std::alloc::Global;
 use transcript_text::print_run;
@@ -18,6 +19,7 @@ pub fn run_of(alloc: Global, text: &[u8]) -> Result<Vec<u8>, ScenarioFault>
     ensures refused { IfErr result (HasFault text.now) }
 {
     let scenario = parse_scenario(alloc, text)?;
+    heads_are_printed();
     match run_text(alloc, &scenario) {
         Ok(output) => Ok(output),
         Err(_) => Err(ScenarioFault::NoMemory),

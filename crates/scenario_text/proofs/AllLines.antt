@@ -25,7 +25,7 @@ use Rattle.scenario_text.proofs.Ends.{can_run}
 use Rattle.scenario_text.proofs.Standing.{AllThere, AreFilled, AreHeld, IsThere, Kept}
 
 -- an end without a fault is one outside threads, with no limit passed
-limits_end : (o : Option Passed) (rest : Answer) (p : ScenarioParts) → within_limits o rest ≡ Ok p → (o ≡ None) × (rest ≡ Ok p)
+pub limits_end : (o : Option Passed) (rest : Answer) (p : ScenarioParts) → within_limits o rest ≡ Ok p → (o ≡ None) × (rest ≡ Ok p)
 limits_end (Some passed) rest p h = absurd (cc)
 limits_end None rest p h = (refl, h)
 
@@ -39,7 +39,7 @@ end_runs s p InThread is h kept = absurd (cc)
 end_runs s p (InPost qp) is h kept = absurd (cc)
 end_runs s p (InRecv qp) is h kept = absurd (cc)
 
-unbroken : (o : Option TextRule) (line : ℕ) (rest : Answer) (p : ScenarioParts) → after_fault o line rest ≡ Ok p → (o ≡ None) × (rest ≡ Ok p)
+pub unbroken : (o : Option TextRule) (line : ℕ) (rest : Answer) (p : ScenarioParts) → after_fault o line rest ≡ Ok p → (o ≡ None) × (rest ≡ Ok p)
 unbroken (Some why) line rest p h = absurd (cc)
 unbroken None line rest p h = (refl, h)
 

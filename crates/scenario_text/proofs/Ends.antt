@@ -35,7 +35,7 @@ has_room d queues programs filled c below = by (slice_get d.cqs c) (filled c)
     by (Some l) h = omega (arith, h l refl)
 
 -- with no limit passed by the lines, none was passed before
-unpassed : (s : Said) → passed_in_lines s ≡ None → s.passed ≡ None
+pub unpassed : (s : Said) → passed_in_lines s ≡ None → s.passed ≡ None
 unpassed s none =
     let last = passed_none (passed_after s.passed (event_bounds s.lines 0 s.lines.eqs)) (turns_bound s.lines s.plan ∷ []) none in
     (passed_none s.passed (event_bounds s.lines 0 s.lines.eqs) last.0).0

@@ -18,7 +18,7 @@ pub record Noted (before now : Said) (n : ℕ) : Type 0 where
 pub noted_none : (before : Said) → Noted before before 0
 noted_none before = record { same = refl; rest = refl }
 
-drop_here : {A : Type 0} (xs : List A) (n : ℕ) (d : A) → n < length xs → drop n xs ≡ slice_index_or xs n d ∷ drop (suc n) xs
+pub drop_here : {A : Type 0} (xs : List A) (n : ℕ) (d : A) → n < length xs → drop n xs ≡ slice_index_or xs n d ∷ drop (suc n) xs
 drop_here [] n d low = absurd (omega (arith, low))
 drop_here (x ∷ xs) zero d low = refl
 drop_here (x ∷ xs) (suc n) d low = drop_here xs n d (omega (arith, low))

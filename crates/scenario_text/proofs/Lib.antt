@@ -34,3 +34,15 @@ pub mod Reading
 pub mod Small
 pub mod Naming
 pub mod Scenarios
+pub mod Words
+pub mod Printed
+pub mod Repeating
+pub mod HeadLines
+pub mod OtherLines
+pub mod EachLine
+pub mod WholeHead
+pub mod Counting
+pub mod Cutting
+pub mod Comments
+pub mod LateLines
+pub mod HeadsAlone

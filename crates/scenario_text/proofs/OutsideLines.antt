@@ -46,11 +46,11 @@ outside_line s keyword section (InPost qp) of no_thread no_item no_receive h =
     absurd (true≢false (sym h ∙ none))
 
 -- where the line stands, and what held before it
-record Begins (s : Said) (section : Section) : Type 0 where
-  outside : s.place ≡ Outside
-  from : place_of s.section ≤ place_of section
+pub record Begins (s : Said) (section : Section) : Type 0 where
+  pub outside : s.place ≡ Outside
+  pub from : place_of s.section ≤ place_of section
 
-begins : (s : Said) (keyword : Keyword) (section : Section) (line : Line) → section_of keyword ≡ Some section → is_of_thread keyword ≡ false → is_item keyword ≡ false → is_receive keyword ≡ false → Passes s keyword line
+pub begins : (s : Said) (keyword : Keyword) (section : Section) (line : Line) → section_of keyword ≡ Some section → is_of_thread keyword ≡ false → is_item keyword ≡ false → is_receive keyword ≡ false → Passes s keyword line
     → Begins s section
 begins s keyword section line of no_thread no_item no_receive ok =
     let all = outside_line s keyword section s.place of no_thread no_item no_receive ok.stands in

@@ -40,7 +40,7 @@ pub at_end : (s : Said) (rest : List ℕ) → length rest ≡ 0 → reading_from
 at_end s [] h = refl
 at_end s (b ∷ bs) h = absurd (omega (arith, h))
 
-two_parts : (s : Said) (line : List ℕ) (parts : List (List ℕ)) → HasFirst parts → reading_from s (line ∷ parts) ≡ after_fault (fault_of s line) (s.count + 1) (reading_from (after_line s line) parts)
+pub two_parts : (s : Said) (line : List ℕ) (parts : List (List ℕ)) → HasFirst parts → reading_from s (line ∷ parts) ≡ after_fault (fault_of s line) (s.count + 1) (reading_from (after_line s line) parts)
 two_parts s line [] h = absurd (none h.first h.more h.is)
   where
     none : (first : List ℕ) (more : List (List ℕ)) → [] ≡ first ∷ more → ⊥

@@ -20,3 +20,4 @@ pub mod AfterCalls
 pub mod After
 pub mod Fitting
 pub mod Whole
+pub mod Printing
