@@ -14,14 +14,12 @@ use Rattle.verbs_rules.specs.Legal.{IsLegal}
 use Rattle.verbs_rules.specs.State.{Verbs}
 use Rattle.verbs_rules.specs.Step.{after_entry}
 use Rattle.verbs_model.specs.Tables.{state_of}
-use Rattle.noted_history.specs.declared.log.TurnResult.{TurnResult}
-use Rattle.noted_history.specs.declared.log.TurnResult.TheVariants.{Nothing, Operation, Entry as TheEntry}
-use Rattle.noted_history.specs.declared.log.TurnRecord.{TurnRecord}
+use Rattle.noted_history.specs.declared.log.Noted.{Noted}
 use Rattle.noted_history.specs.declared.posting.Posting.{Posting}
 use Rattle.noted_history.specs.declared.teller.Teller.{Teller}
 use Rattle.noted_history.specs.Behind.{IsBehind}
 use Rattle.noted_history.specs.Telling.{behind_of, MayOwe, Owes, Tells, MovesOn, Takes}
-use Rattle.noted_history.specs.OfNotes.{Noted, note_by, noted, noted_of, HasNotes}
+use Rattle.noted_history.specs.OfNotes.{noted_of, HasNotes}
 use Rattle.actor_map.specs.Notes.{Told, AllServe, entries_of}
 use Rattle.noted_history.proofs.Posts.{behind_first}
 
@@ -31,18 +29,18 @@ pub record MayMake (programs : List (List Call)) (postings : List Posting) (thre
   pub may_owe : MayOwe programs postings thread dues
   pub answers : Follows MayAnswer after_answer dues entries
 
--- These entries are left, which the turns that are left note.
-pub record IsLeft (t : Teller) (programs : List (List Call)) (turns : List TurnRecord) (rest : List Told) : Type 0 where
+-- These entries are left, of which these are the notes.
+pub record IsLeft (t : Teller) (programs : List (List Call)) (notes : List Noted) (rest : List Told) : Type 0 where
   pub legal : IsLegal (state_of t.state) (entries_of rest)
   pub made : (thread : ℕ) → MayMake programs t.postings.items thread (own_entries (suc thread) (entries_of rest))
   pub serves : AllServe (state_of t.state) rest
-  pub notes : noted turns ≡ map noted_of rest
+  pub notes_are : notes ≡ map noted_of rest
 
 -- The entries so far are the front of the history.
-pub record Stands (t : Teller) (programs : List (List Call)) (turns : List TurnRecord) (history : List Entry) (h : List Told) : Type 0 where
+pub record Stands (t : Teller) (programs : List (List Call)) (notes : List Noted) (history : List Entry) (h : List Told) : Type 0 where
   pub rest : List Told
   pub split : entries_of h ≡ history ++ entries_of rest
-  pub left : IsLeft t programs turns rest
+  pub left : IsLeft t programs notes rest
 
 -- At first no call is behind.
 
@@ -52,8 +50,8 @@ none_behind threads thread = elim (cases_lt thread threads) [
   | inr past ↦ ap (λ (p : Posting). p.behind) (get_or_past (replicate threads (record { behind = 0 })) thread (record { behind = 0 }) (omega (arith, past, length-replicate {A = Posting} threads (record { behind = 0 }))))
 ]
 
-pub stands_first : (t : Teller) (programs : List (List Call)) (turns : List TurnRecord) (v : Verbs) (threads : ℕ) (h : List Told) → HasNotes v programs turns h → state_of t.state ≡ v → t.postings.items ≡ replicate threads (record { behind = 0 }) → Stands t programs turns [] h
-stands_first t programs turns v threads h told state_is postings_are = record {
+pub stands_first : (t : Teller) (programs : List (List Call)) (notes : List Noted) (v : Verbs) (threads : ℕ) (h : List Told) → HasNotes v programs notes h → state_of t.state ≡ v → t.postings.items ≡ replicate threads (record { behind = 0 }) → Stands t programs notes [] h
+stands_first t programs notes v threads h told state_is postings_are = record {
   rest = h;
   split = refl;
   left = record {
@@ -64,31 +62,13 @@ stands_first t programs turns v threads h told state_is postings_are = record {
       may_owe = subst (λ n. IsBehind (slice_index_or programs thread []) n (flat_map due_by (slice_index_or programs thread []))) (sym (ap (λ (ps : List Posting). behind_of ps thread) postings_are ∙ none_behind threads thread)) (behind_first (slice_index_or programs thread []));
       answers = told.answered thread;
     };
-    notes = told.notes;
+    notes_are = told.notes_are;
   };
 }
 
--- A turn with no entry leaves all as it is.
-pub no_note : (actor : ℕ) (made : TurnResult) → ((note : Note) → made ≡ TheEntry note → ⊥) → note_by actor made ≡ None
-no_note actor Nothing none = refl
-no_note actor Operation none = refl
-no_note actor (TheEntry note) none = absurd (none note refl)
+-- The next entry is what the next note tells.
 
-pub stands_over : (t : Teller) (programs : List (List Call)) (turn : TurnRecord) (turns : List TurnRecord) (history : List Entry) (h : List Told) → note_by turn.actor turn.made ≡ None → Stands t programs (turn ∷ turns) history h → Stands t programs turns history h
-stands_over t programs turn turns history h none s = record {
-  rest = s.rest;
-  split = s.split;
-  left = record {
-    legal = s.left.legal;
-    made = s.left.made;
-    serves = s.left.serves;
-    notes = subst (λ (o : Option Noted). cons_option o (noted turns) ≡ map noted_of s.rest) none s.left.notes;
-  };
-}
-
--- The next turn has a note, and the next entry is what it tells.
-
-pub record IsNextOf (t : Teller) (programs : List (List Call)) (n : Noted) (turns : List TurnRecord) (rest : List Told) : Type 0 where
+pub record IsNextOf (t : Teller) (programs : List (List Call)) (n : Noted) (notes : List Noted) (rest : List Told) : Type 0 where
   pub told : Told
   pub later : List Told
   pub rest_is : rest ≡ told ∷ later
@@ -96,18 +76,18 @@ pub record IsNextOf (t : Teller) (programs : List (List Call)) (n : Noted) (turn
   pub legal : IsLegal (after_entry (state_of t.state) told.entry) (entries_of later)
   pub made : (thread : ℕ) → MayMake programs t.postings.items thread (own_entries (suc thread) (told.entry ∷ entries_of later))
   pub serves : AllServe (after_entry (state_of t.state) told.entry) later
-  pub notes : noted turns ≡ map noted_of later
+  pub notes_are : notes ≡ map noted_of later
 
 owes_next : (programs : List (List Call)) (postings : List Posting) (thread : ℕ) (e : Entry) (later : List Entry) → MayMake programs postings thread (own_entries (suc thread) (e ∷ later)) → e.actor ≡ suc thread → Owes programs postings thread e.what
 owes_next programs postings thread e later may by =
     let answers = subst (λ (b : Bool). Follows MayAnswer after_answer may.dues (if b then e.what ∷ own_entries (suc thread) later else own_entries (suc thread) later)) (eq-eqb e.actor (suc thread) by) may.answers in
     record { dues = may.dues; may_owe = may.may_owe; answers = answers.0 }
 
-next_by_notes : (t : Teller) (programs : List (List Call)) (n : Noted) (turns : List TurnRecord) (rest : List Told) → IsLegal (state_of t.state) (entries_of rest) → ((thread : ℕ) → MayMake programs t.postings.items thread (own_entries (suc thread) (entries_of rest))) → AllServe (state_of t.state) rest → n ∷ noted turns ≡ map noted_of rest → IsNextOf t programs n turns rest
-next_by_notes t programs n turns [] legal made serves notes = absurd cc
-next_by_notes t programs n turns (told ∷ later) legal made serves notes =
+next_by_notes : (t : Teller) (programs : List (List Call)) (n : Noted) (notes : List Noted) (rest : List Told) → IsLegal (state_of t.state) (entries_of rest) → ((thread : ℕ) → MayMake programs t.postings.items thread (own_entries (suc thread) (entries_of rest))) → AllServe (state_of t.state) rest → n ∷ notes ≡ map noted_of rest → IsNextOf t programs n notes rest
+next_by_notes t programs n notes [] legal made serves are = absurd cc
+next_by_notes t programs n notes (told ∷ later) legal made serves are =
     let first : n ≡ noted_of told = cc in
-    let others : noted turns ≡ map noted_of later = cc in
+    let others : notes ≡ map noted_of later = cc in
     record {
       told = told;
       later = later;
@@ -116,11 +96,11 @@ next_by_notes t programs n turns (told ∷ later) legal made serves notes =
       legal = legal.1;
       made = made;
       serves = serves.1;
-      notes = others;
+      notes_are = others;
     }
 
-pub next_of : (t : Teller) (programs : List (List Call)) (turn : TurnRecord) (n : Noted) (turns : List TurnRecord) (history : List Entry) (h : List Told) → note_by turn.actor turn.made ≡ Some n → (s : Stands t programs (turn ∷ turns) history h) → IsNextOf t programs n turns s.rest
-next_of t programs turn n turns history h some s = next_by_notes t programs n turns s.rest s.left.legal s.left.made s.left.serves (subst (λ (o : Option Noted). cons_option o (noted turns) ≡ map noted_of s.rest) some s.left.notes)
+pub next_of : (t : Teller) (programs : List (List Call)) (n : Noted) (notes : List Noted) (history : List Entry) (h : List Told) → (s : Stands t programs (n ∷ notes) history h) → IsNextOf t programs n notes s.rest
+next_of t programs n notes history h s = next_by_notes t programs n notes s.rest s.left.legal s.left.made s.left.serves s.left.notes_are
 
 -- The entry was taken.
 
@@ -135,23 +115,23 @@ makes_later programs old new thread e later moves may =
           record { dues = may.dues; may_owe = subst (λ n. IsBehind (slice_index_or programs thread []) n may.dues) (sym (moves.others thread other.1)) may.may_owe; answers = answers })
     ]
 
-pub stands_next : (t t' : Teller) (programs : List (List Call)) (n : Noted) (turns : List TurnRecord) (history : List Entry) (h rest : List Told) (next : IsNextOf t programs n turns rest) (entry : Entry) → entries_of h ≡ history ++ entries_of rest → Takes t t' programs next.told.entry entry → Stands t' programs turns (history ++ entry ∷ []) h
-stands_next t t' programs n turns history h rest next entry split takes = record {
+pub stands_next : (t t' : Teller) (programs : List (List Call)) (n : Noted) (notes : List Noted) (history : List Entry) (h rest : List Told) (next : IsNextOf t programs n notes rest) (entry : Entry) → entries_of h ≡ history ++ entries_of rest → Takes t t' programs next.told.entry entry → Stands t' programs notes (history ++ entry ∷ []) h
+stands_next t t' programs n notes history h rest next entry split takes = record {
   rest = next.later;
   split = split ∙ (ap (λ (ts : List Told). history ++ entries_of ts) next.rest_is ∙ (sym (append_assoc history (next.told.entry ∷ []) (entries_of next.later)) ∙ ap (λ (e : Entry). (history ++ e ∷ []) ++ entries_of next.later) (sym takes.told_is)));
   left = record {
     legal = subst (λ (w : Verbs). IsLegal w (entries_of next.later)) (sym takes.state_is) next.legal;
     made = λ thread. makes_later programs t.postings.items t'.postings.items thread next.told.entry (entries_of next.later) takes.moves (next.made thread);
     serves = subst (λ (w : Verbs). AllServe w next.later) (sym takes.state_is) next.serves;
-    notes = next.notes;
+    notes_are = next.notes_are;
   };
 }
 
 -- No turn is left.
 
 none_left : (rest : List Told) → [] ≡ map noted_of rest → rest ≡ []
-none_left [] notes = refl
-none_left (told ∷ rest) notes = absurd cc
+none_left [] are = refl
+none_left (told ∷ rest) are = absurd cc
 
 pub all_told : (t : Teller) (programs : List (List Call)) (history : List Entry) (h : List Told) → Stands t programs [] history h → history ≡ entries_of h
-all_told t programs history h s = sym (s.split ∙ (ap (λ (ts : List Told). history ++ entries_of ts) (none_left s.rest s.left.notes) ∙ append-nil history))
+all_told t programs history h s = sym (s.split ∙ (ap (λ (ts : List Told). history ++ entries_of ts) (none_left s.rest s.left.notes_are) ∙ append-nil history))

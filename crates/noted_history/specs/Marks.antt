@@ -8,7 +8,7 @@ use Rattle.noted_history.specs.declared.log.TurnResult.TheVariants.{Nothing, Ope
 abbrev pub mark_of : TurnResult → Option Bool
 mark_of Nothing = None
 mark_of Operation = Some false
-mark_of (Entry note) = Some true
+mark_of Entry = Some true
 
 -- the marks of the operations that were made, in order
 abbrev pub marks_in : List TurnRecord → List Bool

@@ -10,7 +10,8 @@ use Rattle.actor_map.specs.Notes.{Told, IsServed}
 use Rattle.noted_history.specs.declared.posting.Posting.{Posting}
 use Rattle.noted_history.specs.declared.teller.Teller.{Teller}
 use Rattle.noted_history.specs.Behind.{IsBehind}
-use Rattle.noted_history.specs.OfNotes.{Noted, noted_of}
+use Rattle.noted_history.specs.declared.log.Noted.{Noted}
+use Rattle.noted_history.specs.OfNotes.{noted_of}
 
 -- how many calls of a thread are behind; 0 for a number that is no thread's
 abbrev pub behind_of : List Posting → ℕ → ℕ

@@ -10,5 +10,5 @@ mod posting;
 mod teller;
 
 pub use entries::history_of;
-pub use log::{TurnRecord, TurnResult};
+pub use log::{Noted, TurnRecord, TurnResult};
 pub use marks::marks_of;

@@ -1,4 +1,4 @@
-//! What a run keeps of each turn beside the bus's trace.
+//! What a run keeps of its turns beside the bus's trace.
 
 use bus_core::Note;
 
@@ -9,8 +9,8 @@ pub enum TurnResult {
     Nothing,
     /// An operation that stands for no entry of the history.
     Operation,
-    /// An operation that stands for the entry of this note.
-    Entry(Note),
+    /// An operation that stands for an entry.
+    Entry,
 }
 
 /// A turn, and whose it was.
@@ -18,4 +18,11 @@ pub enum TurnResult {
 pub struct TurnRecord {
     pub actor: u8,
     pub made: TurnResult,
+}
+
+/// The note of an entry, and whose it is.
+#[derive(Clone, Copy, Debug, PartialEq, Eq, Drop)]
+pub struct Noted {
+    pub actor: u8,
+    pub note: Note,
 }

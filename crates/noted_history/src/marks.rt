@@ -27,6 +27,6 @@ fn mark_of(made: TurnResult) -> Option<bool>
     match made {
         TurnResult::Nothing => None,
         TurnResult::Operation => Some(false),
-        TurnResult::Entry(_) => Some(true),
+        TurnResult::Entry => Some(true),
     }
 }

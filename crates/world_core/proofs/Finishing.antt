@@ -58,11 +58,11 @@ module _ (s : ScenarioParts) (v : RunView) (h : Holds s v) (consistent : IsConsi
   entries_are = entries_told s.lines (fresh_actors s.lines s.programs) h.trace
 
   module _ (law : IsWoven s.lines s.programs h.trace) where
-    pub told : (first : Verbs) (programs : List (List Call)) → first ≡ start s.lines → programs ≡ s.programs → HasNotes first programs v.turns tale
+    pub told : (first : Verbs) (programs : List (List Call)) → first ≡ start s.lines → programs ≡ s.programs → HasNotes first programs v.notes tale
     told first programs first_is programs_are =
-        subst (λ (u : Verbs). HasNotes u programs v.turns tale) (sym first_is)
-        (subst (λ (ps : List (List Call)). HasNotes (start s.lines) ps v.turns tale) (sym programs_are)
-        (record { legal = legal.legal; answered = legal.answered; serves = law.serves; notes = h.made.notes }))
+        subst (λ (u : Verbs). HasNotes u programs v.notes tale) (sym first_is)
+        (subst (λ (ps : List (List Call)). HasNotes (start s.lines) ps v.notes tale) (sym programs_are)
+        (record { legal = legal.legal; answered = legal.answered; serves = law.serves; notes_are = h.made.notes }))
       where
         legal : IsHistory s.lines s.programs (entries_of tale)
         legal = subst (IsHistory s.lines s.programs) (sym entries_are) law.history

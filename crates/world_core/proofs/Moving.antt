@@ -21,10 +21,11 @@ use Rattle.noted_history.specs.declared.log.TurnResult.{TurnResult as MadeBy}
 use Rattle.noted_history.specs.declared.log.TurnResult.TheVariants.{Nothing}
 use Rattle.noted_history.specs.declared.log.TurnRecord.{TurnRecord}
 use Rattle.noted_history.specs.Marks.{mark_of, marks_in}
-use Rattle.noted_history.specs.OfNotes.{Noted, note_by, noted, noted_of}
+use Rattle.noted_history.specs.OfNotes.{noted_of}
+use Rattle.noted_history.specs.declared.log.Noted.{Noted}
 use Rattle.world_core.specs.Holding.{actors_after, actor_of, MadeTurns}
 use Rattle.world_core.specs.Outcome.{AreTurns, Makes, Passes, marks_of}
-use Rattle.world_core.specs.Run.{made_of, with_turn}
+use Rattle.world_core.specs.Log.{made_of, with_note, with_turn}
 use Rattle.world_core.proofs.Pushing.{turns_pass, turns_make, marks_push}
 
 -- the note is that of what an actor's operation tells
@@ -32,13 +33,13 @@ abbrev pub Fits : ℕ → Option Told → Option Note → Type 0
 Fits actor None note = note ≡ None
 Fits actor (Some t) note = (actor ≡ t.entry.actor) × (note ≡ Some (note_told t))
 
--- the notes and the marks of one turn
+-- the note and the mark of one turn
 abbrev one : ℕ → MadeBy → List TurnRecord
 one actor made = record { actor = actor; made = made } ∷ []
 
-notes_one : (actor : ℕ) (now : Option Told) (note : Option Note) → Fits actor now note → noted (one actor (made_of note)) ≡ map noted_of (option_to_list now)
-notes_one actor None n fits = ap (λ (o : Option Note). noted (one actor (made_of o))) fits
-notes_one actor (Some t) n fits = ap (λ (o : Option Note). noted (one actor (made_of o))) fits.1 ∙ (λ i. record { actor = fits.0 i; note = note_told t } ∷ [])
+notes_one : (notes : List Noted) (actor : ℕ) (now : Option Told) (note : Option Note) → Fits actor now note → with_note notes actor note ≡ notes ++ map noted_of (option_to_list now)
+notes_one notes actor None n fits = ap (with_note notes actor) fits ∙ sym (append-nil notes)
+notes_one notes actor (Some t) n fits = ap (with_note notes actor) fits.1 ∙ (λ i. notes ++ record { actor = fits.0 i; note = note_told t } ∷ [])
 
 told_some : (seen : ℕ) (said : Option Entry) → is_some (option_map (with_seen seen) said) ≡ is_some said
 told_some seen None = refl
@@ -48,38 +49,35 @@ marks_one : (actor : ℕ) (said : Option Told) (note : Option Note) → Fits act
 marks_one actor None n fits = ap (λ (o : Option Note). marks_in (one actor (made_of o))) fits
 marks_one actor (Some t) n fits = ap (λ (o : Option Note). marks_in (one actor (made_of o))) fits.1
 
-noted_append : (turns : List TurnRecord) (actor : ℕ) (made : MadeBy) → noted (with_turn turns actor made) ≡ noted turns ++ noted (one actor made)
-noted_append turns actor made = filter_map-append (λ (t : TurnRecord). note_by t.actor t.made) turns (one actor made)
-
 marks_append : (turns : List TurnRecord) (actor : ℕ) (made : MadeBy) → marks_in (with_turn turns actor made) ≡ marks_in turns ++ marks_in (one actor made)
 marks_append turns actor made = filter_map-append (λ (t : TurnRecord). mark_of t.made) turns (one actor made)
 
 actors_append : (turns : List TurnRecord) (actor : ℕ) (made : MadeBy) → map actor_of (with_turn turns actor made) ≡ map actor_of turns ++ actor ∷ []
 actors_append turns actor made = map-append actor_of turns (one actor made)
 
-module _ (s : ScenarioParts) (turns : List TurnRecord) (trace : List (Marked Mark)) (m : MadeTurns s turns trace) where
+module _ (s : ScenarioParts) (turns : List TurnRecord) (notes : List Noted) (trace : List (Marked Mark)) (m : MadeTurns s turns notes trace) where
   abbrev first : Actors
   first = fresh_actors s.lines s.programs
 
   -- the turn of an actor that has ended
-  pub made_passes : (actor : ℕ) → Passes (actors_after s.lines s.programs trace) actor → MadeTurns s (with_turn turns actor Nothing) trace
+  pub made_passes : (actor : ℕ) → Passes (actors_after s.lines s.programs trace) actor → MadeTurns s (with_turn turns actor Nothing) notes trace
   made_passes actor passes = record {
     keeps = m.keeps;
     turned = subst (λ (as' : List ℕ). AreTurns s.lines first as' trace) (sym (actors_append turns actor Nothing)) (turns_pass s.lines (map actor_of turns) trace first actor m.turned passes);
-    notes = noted_append turns actor Nothing ∙ append-nil (noted turns) ∙ m.notes;
+    notes = m.notes;
     marks = marks_append turns actor Nothing ∙ append-nil (marks_in turns) ∙ m.marks;
   }
 
   -- a turn that makes the next operation
   pub made_moves : (actor : ℕ) (x : Marked Mark) (note : Option Note) → MayAny s.lines (actors_after s.lines s.programs trace) x → Makes (actors_after s.lines s.programs trace) actor x
-      → Fits actor (tells s.lines (actors_after s.lines s.programs trace) x) note → MadeTurns s (with_turn turns actor (made_of note)) (trace ++ x ∷ [])
+      → Fits actor (tells s.lines (actors_after s.lines s.programs trace) x) note → MadeTurns s (with_turn turns actor (made_of note)) (with_note notes actor note) (trace ++ x ∷ [])
   made_moves actor x note may makes fits =
       let now : Actors = actors_after s.lines s.programs trace in
       let said : Option Told = tells s.lines now x in record {
         keeps = Follows-push (MayAny s.lines) (after s.lines) first trace x m.keeps may;
         turned = subst (λ (as' : List ℕ). AreTurns s.lines first as' (trace ++ x ∷ [])) (sym (actors_append turns actor (made_of note))) (turns_make s.lines (map actor_of turns) trace first actor x m.turned makes);
-        notes = noted_append turns actor (made_of note)
-            ∙ (λ i. m.notes i ++ notes_one actor said note fits i)
+        notes = notes_one notes actor said note fits
+            ∙ ap (λ (ns : List Noted). ns ++ map noted_of (option_to_list said)) m.notes
             ∙ sym (map-append noted_of (told s.lines s.programs trace) (option_to_list said))
             ∙ ap (map noted_of) (sym (spelled-push (MayAny s.lines) (after s.lines) (tells s.lines) first trace x));
         marks = marks_append turns actor (made_of note)

@@ -14,7 +14,7 @@ use Rattle.thread_actor.specs.View.{ThreadView, thread_of}
 use Rattle.noted_history.specs.declared.log.TurnResult.TheVariants.{Nothing}
 use Rattle.noted_history.specs.declared.log.TurnRecord.{TurnRecord}
 use Rattle.world_core.specs.Holding.{low_after, Holds}
-use Rattle.world_core.specs.Run.{RunView, AdapterCan, ThreadCan, CanOperate, CanTurn, IsGoing, ThreadRests, with_turn}
+use Rattle.world_core.specs.Run.{RunView, AdapterCan, ThreadCan, CanOperate, CanTurn, IsGoing}
 use Rattle.world_core.proofs.Turning.{weaken_adapter, weaken_thread}
 
 module _ (s : ScenarioParts) (v : RunView) (can : CanRun s) (h : Holds s v) (left : length v.turns < turn_count (length s.lines.threads) s.plan) where
@@ -56,14 +56,3 @@ can_operate v place actor can going = record {
 -- one thread stands at a place
 pub same_thread : (threads : List ThreadView) (place : ℕ) (one other : ThreadView) → slice_get threads place ≡ Some one → slice_get threads place ≡ Some other → one ≡ other
 same_thread threads place one other here there = let both : Some one ≡ Some other = sym here ∙ there in cc both
-
--- a thread that has ended leaves a turn that made nothing
-pub rested : (v : RunView) (turns : List TurnRecord) (capacity place : ℕ) (thread : ThreadView) → slice_get v.threads place ≡ Some thread → thread.ended ≡ true → turns ≡ with_turn v.turns (place + 1) Nothing → capacity ≡ v.capacity
-    → ThreadRests v (record { bus = v.bus; adapter = v.adapter; threads = v.threads; turns = turns; capacity = capacity }) place
-rested v turns capacity place thread found ended turns_are capacity_is = let next : place + 1 ≡ suc place = omega arith in record {
-  thread = thread;
-  found = found;
-  ended = ended;
-  new_is = ap (λ (ts : List TurnRecord). record { bus = v.bus; adapter = v.adapter; threads = v.threads; turns = ts; capacity = capacity }) (turns_are ∙ ap (λ (actor : ℕ). with_turn v.turns actor Nothing) next)
-      ∙ ap (λ (n : ℕ). record { bus = v.bus; adapter = v.adapter; threads = v.threads; turns = with_turn v.turns (suc place) Nothing; capacity = n }) capacity_is;
-}

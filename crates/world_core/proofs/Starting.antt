@@ -17,7 +17,6 @@ use Rattle.thread_actor.specs.Small.{IsBelow}
 use Rattle.thread_actor.specs.View.{ThreadView, thread_of}
 use Rattle.noted_history.specs.declared.log.TurnRecord.{TurnRecord}
 use Rattle.noted_history.specs.Marks.{marks_in}
-use Rattle.noted_history.specs.OfNotes.{noted}
 use Rattle.world_core.specs.Holding.{low_after, actors_after, actor_of, IsAdapter, IsThreadOf, MadeTurns, Stand, Holds}
 use Rattle.world_core.specs.Outcome.{AreTurns}
 use Rattle.world_core.specs.Run.{RunView, CanTurn}
@@ -40,7 +39,7 @@ module _ (s : ScenarioParts) (v : RunView) (can : CanRun s) (grow : CountsGrow) 
   abbrev first : Actors
   first = fresh_actors s.lines s.programs
 
-  none_made : MadeTurns s [] []
+  none_made : MadeTurns s [] [] []
   none_made = record { keeps = tt; turned = tt; notes = refl; marks = refl }
 
   first_thread : (t : ℕ) (view : ThreadView) → slice_get v.threads t ≡ Some view → IsThreadOf s.lines first 0 (suc t) view
@@ -66,7 +65,7 @@ module _ (s : ScenarioParts) (v : RunView) (can : CanRun s) (grow : CountsGrow) 
       let none : 0 ≡ length v.turns = ap (λ (ts : List TurnRecord). length ts) (sym f.turns) in
       record {
         trace = [];
-        made = subst (λ (ts : List TurnRecord). MadeTurns s ts []) (sym f.turns) none_made;
+        made = coe 0 1 (i. MadeTurns s (sym f.turns i) (sym f.notes i) []) none_made;
         stand = record {
           adapter = subst (λ n. IsAdapter s.lines first n v.adapter) none first_adapter;
           thread_count = f.threads.count;

@@ -39,7 +39,8 @@ use Rattle.noted_history.specs.declared.log.TurnResult.TheVariants.{Nothing}
 use Rattle.noted_history.specs.declared.log.TurnRecord.{TurnRecord}
 use Rattle.world_core.specs.Holding.{actors_after, low_after, IsAdapter, IsThreadOf, MadeTurns, Stand, HasBus, Holds}
 use Rattle.world_core.specs.Outcome.{Makes, Passes, has_ended}
-use Rattle.world_core.specs.Run.{RunView, AdapterMoves, ThreadMoves, ThreadRests, made_of, with_operation, with_turn}
+use Rattle.world_core.specs.Log.{made_of, with_turn}
+use Rattle.world_core.specs.Run.{RunView, AdapterMoves, ThreadMoves, ThreadRests, with_operation}
 use Rattle.world_core.proofs.Moving.{Fits, made_passes, made_moves}
 
 -- Counts
@@ -162,7 +163,7 @@ module _ (s : ScenarioParts) (old new : RunView) (h : Holds s old) (m : AdapterM
   pub adapter_holds : Holds s new
   adapter_holds = record {
     trace = h.trace ++ x ∷ [];
-    made = subst (λ (ts : List TurnRecord). MadeTurns s ts (h.trace ++ x ∷ [])) (sym m.turns) (made_moves s old.turns h.trace h.made 0 x m.note may (record { going = refl; by = m.by }) fits);
+    made = coe 1 0 (i. MadeTurns s (m.turns i) (m.notes i) (h.trace ++ x ∷ [])) (made_moves s old.turns old.notes h.trace h.made 0 x m.note may (record { going = refl; by = m.by }) fits);
     stand = record {
       adapter = subst (λ (v : Actors). IsAdapter s.lines v (length new.turns) new.adapter) (sym now) moved;
       thread_count = ap (λ (ts : List ThreadView). length ts) m.threads ∙ h.stand.thread_count;
@@ -239,7 +240,7 @@ module _ (s : ScenarioParts) (old new : RunView) (t : ℕ) (h : Holds s old) (m 
   pub thread_holds : Holds s new
   thread_holds = record {
     trace = h.trace ++ y ∷ [];
-    made = subst (λ (ts : List TurnRecord). MadeTurns s ts (h.trace ++ y ∷ [])) (sym m.turns) (made_moves s old.turns h.trace h.made (suc t) y m.note may_thread makes fits_thread);
+    made = coe 1 0 (i. MadeTurns s (m.turns i) (m.notes i) (h.trace ++ y ∷ [])) (made_moves s old.turns old.notes h.trace h.made (suc t) y m.note may_thread makes fits_thread);
     stand = record {
       adapter = subst (λ (v : Actors). IsAdapter s.lines v (length new.turns) new.adapter) (sym now_all)
           (subst (IsAdapter s.lines (after_by s.lines before_all (suc t) y) (length new.turns)) (sym m.adapter)
@@ -253,13 +254,13 @@ module _ (s : ScenarioParts) (old new : RunView) (t : ℕ) (h : Holds s old) (m 
 -- A thread that has ended
 
 module _ (s : ScenarioParts) (old new : RunView) (t : ℕ) (h : Holds s old) (m : ThreadRests old new t) where
-  rests_here : Holds s (record { bus = old.bus; adapter = old.adapter; threads = old.threads; turns = with_turn old.turns (suc t) Nothing; capacity = old.capacity })
+  rests_here : Holds s (record { bus = old.bus; adapter = old.adapter; threads = old.threads; turns = with_turn old.turns (suc t) Nothing; notes = old.notes; capacity = old.capacity })
   rests_here =
       let w' = actors_after s.lines s.programs h.trace in
       let more : low_after (length old.turns) ≤ low_after (length (with_turn old.turns (suc t) Nothing)) = low_rises old.turns (suc t) Nothing in
       record {
         trace = h.trace;
-        made = made_passes s old.turns h.trace h.made (suc t) (ap (λ (r : Thread). r.ended) (sym (h.stand.threads t m.thread m.found).rule) ∙ m.ended);
+        made = made_passes s old.turns old.notes h.trace h.made (suc t) (ap (λ (r : Thread). r.ended) (sym (h.stand.threads t m.thread m.found).rule) ∙ m.ended);
         stand = record {
           adapter = adapter_stays s.lines w' w' (length old.turns) (length (with_turn old.turns (suc t) Nothing)) old.adapter more refl h.stand.adapter;
           thread_count = h.stand.thread_count;

@@ -19,7 +19,8 @@ use Rattle.thread_actor.specs.Small.{IsBelow}
 use Rattle.thread_actor.specs.View.{ThreadView, thread_of}
 use Rattle.noted_history.specs.declared.log.TurnRecord.{TurnRecord}
 use Rattle.noted_history.specs.Marks.{marks_in}
-use Rattle.noted_history.specs.OfNotes.{noted, noted_of}
+use Rattle.noted_history.specs.OfNotes.{noted_of}
+use Rattle.noted_history.specs.declared.log.Noted.{Noted}
 use Rattle.world_core.specs.Outcome.{AreTurns, marks_of}
 use Rattle.world_core.specs.Run.{RunView}
 
@@ -46,11 +47,11 @@ pub record IsThreadOf (d : Lines) (w : Actors) (turns actor : ℕ) (thread : Thr
 abbrev pub actor_of : TurnRecord → ℕ
 actor_of t = t.actor
 
--- the turns so far made these operations
-pub record MadeTurns (s : ScenarioParts) (turns : List TurnRecord) (trace : List (Marked Mark)) : Type 0 where
+-- the turns so far made these operations, and these are the notes of those that stand for an entry
+pub record MadeTurns (s : ScenarioParts) (turns : List TurnRecord) (notes_made : List Noted) (trace : List (Marked Mark)) : Type 0 where
   pub keeps : Follows (MayAny s.lines) (after s.lines) (fresh_actors s.lines s.programs) trace
   pub turned : AreTurns s.lines (fresh_actors s.lines s.programs) (map actor_of turns) trace
-  pub notes : noted turns ≡ map noted_of (told s.lines s.programs trace)
+  pub notes : notes_made ≡ map noted_of (told s.lines s.programs trace)
   pub marks : marks_in turns ≡ marks_of s.lines (fresh_actors s.lines s.programs) trace
 
 -- the actors after these operations
@@ -71,6 +72,6 @@ pub record HasBus (s : ScenarioParts) (v : RunView) (trace : List (Marked Mark))
 -- the run of a scenario so far
 pub record Holds (s : ScenarioParts) (v : RunView) : Type 0 where
   pub trace : List (Marked Mark)
-  pub made : MadeTurns s v.turns trace
+  pub made : MadeTurns s v.turns v.notes trace
   pub stand : Stand s v trace
   pub bus : HasBus s v trace

@@ -1,5 +1,7 @@
 pub mod World
 pub mod Outcome
+pub mod Log
+pub mod LogInside
 pub mod Run
 pub mod RunInside
 pub mod Start

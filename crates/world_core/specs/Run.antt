@@ -10,17 +10,19 @@ use Rattle.device_engine.specs.View.{ScanView, rule_of}
 use Rattle.thread_actor.specs.Small.{IsSmall}
 use Rattle.thread_actor.specs.Turn.{ThreadTurn}
 use Rattle.thread_actor.specs.View.{ThreadView}
-use Rattle.noted_history.specs.declared.log.TurnResult.{TurnResult}
-use Rattle.noted_history.specs.declared.log.TurnResult.TheVariants.{Nothing, Operation, Entry}
+use Rattle.noted_history.specs.declared.log.Noted.{Noted}
 use Rattle.noted_history.specs.declared.log.TurnRecord.{TurnRecord}
+use Rattle.noted_history.specs.declared.log.TurnResult.TheVariants.{Nothing}
+use Rattle.world_core.specs.Log.{made_of, with_turn, with_note}
 
 pub record RunView : Type 0 where
   pub bus : Plain
   pub adapter : ScanView
   -- thread 1 is the first
   pub threads : List ThreadView
-  -- what each turn made, and for how many turns there is room
+  -- what each turn made, the notes of those that stand for an entry, and for how many turns there is room
   pub turns : List TurnRecord
+  pub notes : List Noted
   pub capacity : ℕ
 
 -- What a turn asks
@@ -56,17 +58,9 @@ pub record CanOperate (threads : List ThreadView) (place : ℕ) (bus : Plain) : 
 
 -- What a turn makes
 
--- what an operation made that has this note
-abbrev pub made_of : Option Note → TurnResult
-made_of None = Operation
-made_of (Some note) = Entry note
-
 -- one more operation of this actor on the bus
 abbrev pub with_operation : Plain → ℕ → BusEntry → Plain
 with_operation bus actor e = record { actor = actor; start = bus.start; trace = bus.trace ++ e ∷ []; room = bus.room - 1 }
-
-abbrev pub with_turn : List TurnRecord → ℕ → TurnResult → List TurnRecord
-with_turn turns actor made = turns ++ record { actor = actor; made = made } ∷ []
 
 -- the adapter makes its next operation
 pub record AdapterMoves (old new : RunView) : Type 0 where
@@ -76,6 +70,7 @@ pub record AdapterMoves (old new : RunView) : Type 0 where
   pub turn : AdapterTurn old.adapter new.adapter entry note
   pub bus : new.bus ≡ with_operation old.bus 0 entry
   pub turns : new.turns ≡ with_turn old.turns 0 (made_of note)
+  pub notes : new.notes ≡ with_note old.notes 0 note
   pub threads : new.threads ≡ old.threads
   pub capacity : new.capacity ≡ old.capacity
 
@@ -102,6 +97,7 @@ pub record ThreadMoves (old new : RunView) (t : ℕ) : Type 0 where
   pub turn : ThreadTurn before after entry note
   pub bus : new.bus ≡ with_operation old.bus (suc t) entry
   pub turns : new.turns ≡ with_turn old.turns (suc t) (made_of note)
+  pub notes : new.notes ≡ with_note old.notes (suc t) note
   pub threads : new.threads ≡ slice_set old.threads t after
   pub adapter : new.adapter ≡ old.adapter
   pub capacity : new.capacity ≡ old.capacity

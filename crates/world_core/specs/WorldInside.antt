@@ -14,7 +14,7 @@ use Rattle.world_core.specs.RunInside.{run_view}
 use Rattle.world_core.specs.World.{WorldView}
 
 abbrev pub world_view : Inside → WorldView
-world_view w = record { parts = w.scenario.value; turns = map actor_of w.run.turns.items }
+world_view w = record { parts = w.scenario.value; turns = map actor_of w.run.log.turns }
 
 -- a world of a scenario that can run
 pub record IsWorldOf (s : ScenarioParts) (programs : List (List Call)) (plan : Plan) (first : Verbs) (run : RunView) : Type 0 where

@@ -4,6 +4,7 @@
 #![tactic(auto)]
 
 mod copies;
+mod log;
 mod outcome;
 mod run;
 mod start;

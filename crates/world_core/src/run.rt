@@ -1,13 +1,13 @@
 //! The actors of a run, turn by turn.
 ghost use Rattle.std.specs.Prelude.{◌≡◌, ◌<◌, ◌⊎◌, suc, length, Some, slice_get};
 ghost use Rattle.thread_actor.specs.View.{ThreadView};
-ghost use Rattle.world_core.specs.Run.{CanOperate, CanTurn, Turns, AdapterMoves, IsGoing, Operates, ThreadMoves, ThreadRests, made_of as made};
+ghost use Rattle.world_core.specs.Run.{CanOperate, CanTurn, Turns, AdapterMoves, IsGoing, Operates, ThreadMoves, ThreadRests};
 ghost use Rattle.world_core.specs.RunInside.{run_view};
 
+use crate::log::Log;
 use actor_map::Actor;
 use bus_core::{Note, PlainBus};
 use device_engine::Device;
-use noted_history::{TurnRecord, TurnResult};
 use thread_actor::ThreadActor;
 use verbs_types::ADAPTER;
 
@@ -19,7 +19,7 @@ pub(crate) struct Run {
     /// The first is thread 1.
     pub threads: Vec<ThreadActor>,
     /// What each turn made.
-    pub turns: Vec<TurnRecord>,
+    pub log: Log,
 }
 
 impl Run {
@@ -41,10 +41,7 @@ impl Run {
     {
         self.bus.set_actor(ADAPTER);
         let note = self.adapter.turn(&mut self.bus);
-        self.turns.push_reserved(TurnRecord {
-            actor: ADAPTER,
-            made: made_of(note),
-        });
+        self.log.keep(ADAPTER, note);
     }
 
     /// A turn of the thread at a place.
@@ -53,10 +50,7 @@ impl Run {
         ensures { ThreadMoves (run_view self.old) (run_view self.new) place ⊎ ThreadRests (run_view self.old) (run_view self.new) place }
     {
         if has_ended(self.threads.as_slice(), place as usize) {
-            self.turns.push_reserved(TurnRecord {
-                actor: place + 1,
-                made: TurnResult::Nothing,
-            });
+            self.log.pass(place + 1);
         } else {
             self.operation_of_thread(place);
         }
@@ -71,10 +65,7 @@ impl Run {
         let actor = place + 1;
         self.bus.set_actor(actor);
         let note = operation_at(self.threads.as_mut_slice(), place as usize, &mut self.bus);
-        self.turns.push_reserved(TurnRecord {
-            actor,
-            made: made_of(note),
-        });
+        self.log.keep(actor, note);
     }
 }
 
@@ -92,14 +83,4 @@ fn operation_at(threads: &mut [ThreadActor], place: usize, bus: &mut PlainBus) -
     ensures { Operates threads.old threads.new place bus.old bus.new result }
 {
     threads[place].turn(bus)
-}
-
-/// What an operation made that has this note.
-fn made_of(note: Option<Note>) -> TurnResult
-    ensures { result ≡ made note }
-{
-    match note {
-        None => TurnResult::Operation,
-        Some(note) => TurnResult::Entry(note),
-    }
 }

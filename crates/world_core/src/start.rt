@@ -1,5 +1,5 @@
 //! A run before its first turn.
-ghost use Rattle.std.specs.Prelude.{◌≡◌, ◌≤◌, ◌^◌, [], length, vec_capacity, IfOk};
+ghost use Rattle.std.specs.Prelude.{◌≡◌, ◌≤◌, ◌^◌, length, IfOk};
 ghost use Rattle.actor_map.specs.Map.{map_of};
 ghost use Rattle.actor_map.specs.Sizes.{words_of};
 ghost use Rattle.thread_actor.specs.Fresh.{CanRun, IsFresh};
@@ -7,12 +7,12 @@ ghost use Rattle.world_core.specs.RunInside.{run_view};
 ghost use Rattle.world_core.specs.Start.{AreFresh, CanStart, IsFirst, IsFirstBus};
 
 use crate::copies::copy_of_calls;
+use crate::log::Log;
 use crate::run::Run;
 use crate::turns::turns_of;
 use actor_map::{AddressMap, set_starts, words};
 use bus_core::PlainBus;
 use device_engine::Device;
-use noted_history::TurnRecord;
 use ready_scenarios::laws::ready;
 use scenario_text::Scenario;
 use std::alloc::Global;
@@ -34,7 +34,7 @@ pub(crate) fn first_run(alloc: Global, scenario: &Scenario) -> Result<Run, NoMem
         bus: first_bus(alloc, declared, turns)?,
         adapter: Device::new(alloc, declared, &map)?,
         threads: threads_of(alloc, declared, &map, scenario.programs())?,
-        turns: room_for(alloc, turns as usize)?,
+        log: Log::new(alloc, turns as usize)?,
     })
 }
 
@@ -44,17 +44,6 @@ fn map_of_objects(alloc: Global, declared: &Declared) -> Result<AddressMap, NoMe
 {
     match AddressMap::build(alloc, declared) {
         Ok(map) => Ok(map),
-        Err(_) => Err(NoMemory),
-    }
-}
-
-/// Room for `count` turns.
-fn room_for(alloc: Global, count: usize) -> Result<Vec<TurnRecord>, NoMemory>
-    ensures none { IfOk result (λ turns. turns.items ≡ []) }
-    ensures room { IfOk result (λ turns. count ≤ vec_capacity turns) }
-{
-    match Vec::with_capacity(alloc, count) {
-        Ok(turns) => Ok(turns),
         Err(_) => Err(NoMemory),
     }
 }

@@ -183,10 +183,9 @@ impl World {
         run_is_bounded();
         stores_are_told();
         let first = self.first;
-        let turns = self.run.turns.as_slice();
         let trace = copy_of_trace(alloc, &self.run.bus)?;
-        let marks = marks_of(alloc, turns)?;
-        let history = history_of(alloc, first, self.programs.as_slice(), turns)?;
+        let marks = marks_of(alloc, self.run.log.turns())?;
+        let history = history_of(alloc, first, self.programs.as_slice(), self.run.log.notes())?;
         Ok(Outcome {
             trace,
             marks,

@@ -6,6 +6,7 @@ use Rattle.actor_map.specs.Sizes.{words_of}
 use Rattle.device_engine.specs.First as device
 use Rattle.scenario_text.specs.declared.scenario.Plan.{Plan}
 use Rattle.scenario_text.specs.Limits.{turn_count}
+use Rattle.world_core.specs.Log.{LogView}
 use Rattle.world_core.specs.Start.{AreFresh, CanStart, IsFirstBus}
 use Rattle.world_core.proofs.start.first_run.Goals as goal
 
@@ -35,6 +36,7 @@ returns c =
       adapter = subst (λ (d : Lines). device.IsFresh d c.in_ok-new.field-0) lines c.in_ok-new.ensures;
       threads = subst (λ (d : Lines). AreFresh d s.programs c.in_ok-threads_of.field-0.items) lines
           (subst (λ (ps : List (List Call)). AreFresh c.declared-declared.result.now ps c.in_ok-threads_of.field-0.items) c.programs-2.ensures.programs c.in_ok-threads_of.ensures);
-      turns = c.in_ok-room_for.ensures.none;
-      capacity = omega (arith, turns, c.in_ok-room_for.ensures.room);
+      turns = ap (λ (log : LogView). log.turns) c.in_ok-new-2.ensures;
+      notes = ap (λ (log : LogView). log.notes) c.in_ok-new-2.ensures;
+      capacity = omega (arith, turns, ap (λ (log : LogView). log.capacity) c.in_ok-new-2.ensures);
     }

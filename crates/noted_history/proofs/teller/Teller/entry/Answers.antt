@@ -3,7 +3,7 @@ use Rattle.std.proofs.Common.{◌≡◌, sym, ap, ◌∙◌, Err}
 use Rattle.std.proofs.lemmas.Option.{none-some}
 use Rattle.verbs_rules.specs.Step.{MayStep, after_entry}
 use Rattle.verbs_model.specs.Tables.{state_of}
-use Rattle.noted_history.specs.OfNotes.{Noted}
+use Rattle.noted_history.specs.declared.log.Noted.{Noted}
 use Rattle.noted_history.proofs.teller.Teller.entry.Goals as goal
 
 pub returns-in-Ok : goal.returns-in-Ok

@@ -2,7 +2,7 @@
 use Rattle.std.proofs.Common.{◌≡◌, ℕ, suc, ◌-◌, List, take, refl, sym, ap, ap₂, ◌∙◌, arith}
 use Rattle.verbs_types.specs.declared.call.Call.{Call}
 use Rattle.actor_map.specs.Notes.{Told, note_of}
-use Rattle.noted_history.specs.OfNotes.{Noted}
+use Rattle.noted_history.specs.declared.log.Noted.{Noted}
 use Rattle.verbs_types.specs.declared.entry.What.TheVariants.{Post}
 use Rattle.verbs_model.specs.Tables.{state_of}
 use Rattle.bus_core.specs.declared.turn.Note.{Note}

@@ -3,7 +3,7 @@ use Rattle.std.proofs.Common.{◌≡◌, ℕ, suc, ◌-◌, List, refl, sym, ap,
 use Rattle.bus_core.specs.declared.turn.Note.{Note}
 use Rattle.verbs_types.specs.declared.call.Call.{Call}
 use Rattle.actor_map.specs.Notes.{Told, note_of}
-use Rattle.noted_history.specs.OfNotes.{Noted}
+use Rattle.noted_history.specs.declared.log.Noted.{Noted}
 use Rattle.verbs_types.specs.declared.completion.Queue.{Queue}
 use Rattle.verbs_types.specs.declared.entry.What.TheVariants.{PostFull}
 use Rattle.verbs_model.specs.Tables.{state_of}

@@ -7,7 +7,7 @@ use Rattle.verbs_types.specs.declared.state.Unpolled.{Unpolled}
 use Rattle.verbs_model.specs.Tables.{state_of}
 use Rattle.verbs_types.specs.declared.call.Call.{Call}
 use Rattle.actor_map.specs.Notes.{Told, note_of}
-use Rattle.noted_history.specs.OfNotes.{Noted}
+use Rattle.noted_history.specs.declared.log.Noted.{Noted}
 use Rattle.bus_core.specs.declared.turn.Note.{Note}
 use Rattle.noted_history.specs.declared.teller.Teller.{Teller}
 use Rattle.noted_history.specs.Telling.{Tells}

@@ -1,8 +1,10 @@
 -- The thread has ended and rests, or it has not and makes its next operation.
-use Rattle.std.proofs.Common.{◌≡◌, ◌∙◌, arith, inr, sym, ap, List, slice_get}
+use Rattle.std.proofs.Common.{◌≡◌, ◌∙◌, ℕ, suc, ◌+◌, arith, inr, sym, ap, List, slice_get}
 use Rattle.thread_actor.specs.View.{ThreadView}
+use Rattle.noted_history.specs.declared.log.TurnResult.TheVariants.{Nothing}
+use Rattle.world_core.specs.Log.{LogView, with_turn}
 use Rattle.world_core.specs.RunInside.{run_view}
-use Rattle.world_core.proofs.Ready.{same_thread, rested}
+use Rattle.world_core.proofs.Ready.{same_thread}
 use Rattle.world_core.proofs.run.Run.turn_of_thread.Goals as goal
 
 pub overflow_add-place : goal.overflow_add-place
@@ -16,4 +18,5 @@ operation_of_thread-requires-clause-going c thread there =
 pub returns-then-has_ended : goal.returns-then-has_ended
 returns-then-has_ended c =
     let found = ap (λ (threads : List ThreadView). slice_get threads c.args.place) (sym c.as_slice.ensures.value) ∙ c.has_ended.ensures.1 in
-    inr (rested (run_view c.args.self.now) c.push_reserved.new.self.items _ c.args.place c.has_ended.ensures.0 found (sym c.has_ended.ensures.2 ∙ c.if-has_ended.true) c.push_reserved.ensures.items c.push_reserved.ensures.capacity)
+    let next : c.args.place + 1 ≡ suc c.args.place = omega arith in
+    inr (record { thread = c.has_ended.ensures.0; found = found; ended = sym c.has_ended.ensures.2 ∙ c.if-has_ended.true; new_is = ap (λ (log : LogView). record (run_view c.args.self.now) { turns = log.turns; notes = log.notes; capacity = log.capacity }) c.pass.ensures ∙ ap (λ (actor : ℕ). record (run_view c.args.self.now) { turns = with_turn c.args.self.now.log.turns actor Nothing }) next })

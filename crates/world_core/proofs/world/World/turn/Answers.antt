@@ -12,9 +12,9 @@ use Rattle.world_core.proofs.world.World.turn.Goals as goal
 
 pub turn-requires : goal.turn-requires
 turn-requires c =
-    let made : length (map actor_of c.self.inside.run.turns.items) < turn_count (length c.self.inside.scenario.value.lines.threads) c.self.inside.scenario.value.plan =
+    let made : length (map actor_of c.self.inside.run.log.turns) < turn_count (length c.self.inside.scenario.value.lines.threads) c.self.inside.scenario.value.plan =
     subst (λ (v : WorldView). length v.turns < turn_count (length v.parts.lines.threads) v.parts.plan) (sym c.self.view_is) c.requires.left in
-    let long : length (map actor_of c.self.inside.run.turns.items) ≡ length c.self.inside.run.turns.items = length-map c.self.inside.run.turns.items actor_of in
+    let long : length (map actor_of c.self.inside.run.log.turns) ≡ length c.self.inside.run.log.turns = length-map c.self.inside.run.log.turns actor_of in
     let among = subst (λ (v : WorldView). c.args.actor ≤ length v.parts.programs) (sym c.self.view_is) c.requires.actor in
     can_turn c.self.inside.scenario.value (run_view c.self.inside.run) c.self.invariant.scenario c.self.invariant.holds (omega (arith, made, long)) c.args.actor among
 
