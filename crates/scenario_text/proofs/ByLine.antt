@@ -38,7 +38,7 @@ known_kept : (keyword : Option Keyword) (line : Line) (s : Said) → IsTrue (is_
 known_kept None line s built unbroken kept = absurd (cc)
 known_kept (Some keyword) line s built unbroken kept = line_kept keyword line s (passes_rules s keyword line built unbroken) kept
 
-count_kept : (s : Said) → Kept s → Kept (count_line s)
+pub count_kept : (s : Said) → Kept s → Kept (count_line s)
 count_kept s kept none = let h : Stands s = kept none in moved s (s.count + 1) s.section s.passed h.early h
 
 -- lines without words say nothing

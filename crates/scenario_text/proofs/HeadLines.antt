@@ -37,7 +37,7 @@ use Rattle.scenario_text.proofs.Asked.{Passes, part_kept}
 use Rattle.scenario_text.proofs.Declaring.{with_eq, with_pd, with_cq, with_qp, with_connect}
 use Rattle.scenario_text.proofs.OutsideLines.{begins}
 use Rattle.scenario_text.proofs.Printed.{number_printed, recv_log_printed, line_printed, whole_line}
-use Rattle.scenario_text.proofs.Repeating.{AllCalled, Extends, IsCalled, last_from, last_text, name_printed, stays_push}
+use Rattle.scenario_text.proofs.Repeating.{AllCalled, Extends, IsCalled, last_from, last_text, name_printed, extends_eq, extends_pd, extends_cq, extends_qp, extends_connect}
 use Rattle.scenario_text.proofs.Within.{passed_none}
 use Rattle.scenario_text.proofs.Words.{word_of}
 
@@ -77,10 +77,10 @@ next_repeats d next names entry section after o done text n h = record {
         sym (append-nil (flat_map (object_text e) d.order)) ∙ ap (λ cs. flat_map (object_text e) d.order ++ flat_map (connect_text e) cs) (sym n.none)
         ∙ h.printed e (n.before e more)
 
-small_is : (n : ℕ) → n ≤ 4294967295 → small n ≡ n
+pub small_is : (n : ℕ) → n ≤ 4294967295 → small n ≡ n
 small_is n le = omega (arith, le)
 
-small_printed : (fields : Line) (place : ℕ) → number_at fields place ≤ 4294967295 → IsTrue (is_number (part_at fields place)) → decimal (small_at fields place) ≡ part_at fields place
+pub small_printed : (fields : Line) (place : ℕ) → number_at fields place ≤ 4294967295 → IsTrue (is_number (part_at fields place)) → decimal (small_at fields place) ≡ part_at fields place
 small_printed fields place le number = ap decimal (small_is (number_at fields place) le) ∙ number_printed (part_at fields place) number
 
 module _ (bytes : List ℕ) (s : Said) (done : List ℕ) where
@@ -110,7 +110,7 @@ module _ (bytes : List ℕ) (s : Said) (done : List ℕ) where
       entry = record { name = name_in fields; meaning = OfObject (objects.Eq (length s.lines.eqs)) }
 
       before : (e : Lines) → Extends (with_eq s.lines l) e → Extends s.lines e
-      before e more = record { eqs = stays_push s.lines.eqs e.eqs l more.eqs; pds = more.pds; cqs = more.cqs; qps = more.qps; threads = more.threads }
+      before e = extends_eq s.lines e l
 
       are : number_at fields 2 ≤ 10 → eq_fields l ≡ fields
       are low =
@@ -136,7 +136,7 @@ module _ (bytes : List ℕ) (s : Said) (done : List ℕ) where
       entry = record { name = name_in fields; meaning = OfObject (objects.Pd (FIRST_PD + length s.lines.pds)) }
 
       before : (e : Lines) → Extends (with_pd s.lines l) e → Extends s.lines e
-      before e more = record { eqs = more.eqs; pds = stays_push s.lines.pds e.pds l more.pds; cqs = more.cqs; qps = more.qps; threads = more.threads }
+      before e = extends_pd s.lines e l
 
       are : pd_fields l ≡ fields
       are = (λ i. sym word i ∷ part_at fields 1 ∷ []) ∙ whole_line is_formed (slots_of keywords.Pd) fields some ok.formed
@@ -161,7 +161,7 @@ module _ (bytes : List ℕ) (s : Said) (done : List ℕ) where
       entry = record { name = name_in fields; meaning = OfObject (objects.Cq (length s.lines.cqs)) }
 
       before : (e : Lines) → Extends (with_cq s.lines l) e → Extends s.lines e
-      before e more = record { eqs = more.eqs; pds = more.pds; cqs = stays_push s.lines.cqs e.cqs l more.cqs; qps = more.qps; threads = more.threads }
+      before e = extends_cq s.lines e l
 
       are : (e : Lines) → AllCalled e s.names → number_at fields 2 ≤ min (number_at fields 3) 12 → number_at fields 3 ≤ 12 → cq_fields e l ≡ fields
       are e called low high =
@@ -200,7 +200,7 @@ module _ (bytes : List ℕ) (s : Said) (done : List ℕ) where
       entry = record { name = name_in fields; meaning = OfObject (objects.Qp (FIRST_QP + length s.lines.qps)) }
 
       before : (e : Lines) → Extends (with_qp s.lines l) e → Extends s.lines e
-      before e more = record { eqs = more.eqs; pds = more.pds; cqs = more.cqs; qps = stays_push s.lines.qps e.qps l more.qps; threads = more.threads }
+      before e = extends_qp s.lines e l
 
       are : (e : Lines) → AllCalled e s.names → number_at fields 5 ≤ 8 → recv_log_at fields ≤ 8 → number_at fields 7 ≤ 8 → qp_fields e l ≡ fields
       are e called send recv most =
@@ -236,7 +236,7 @@ module _ (bytes : List ℕ) (s : Said) (done : List ℕ) where
       h = kept (passed_none s.passed (bounds_of s keywords.Connect fields) none).0
 
       before : (e : Lines) → Extends (with_connect s.lines l) e → Extends s.lines e
-      before e more = record { eqs = more.eqs; pds = more.pds; cqs = more.cqs; qps = more.qps; threads = more.threads }
+      before e = extends_connect s.lines e l
 
       are : (e : Lines) → AllCalled e s.names → connect_fields e l ≡ fields
       are e called =

@@ -46,3 +46,10 @@ pub mod Cutting
 pub mod Comments
 pub mod LateLines
 pub mod HeadsAlone
+pub mod Keyed
+pub mod CallFields
+pub mod CallLinesPrinted
+pub mod ThreadText
+pub mod Writing
+pub mod WritingCalls
+pub mod WholeText

@@ -19,7 +19,7 @@ use Rattle.scenario_text.specs.declared.sofar.Place.{Place}
 use Rattle.scenario_text.specs.declared.sofar.Place.TheVariants.{Outside, InThread, InPost, InRecv}
 use Rattle.scenario_text.proofs.Declaring.{with_thread}
 use Rattle.scenario_text.proofs.HeadLines.{Repeats, Repeated}
-use Rattle.scenario_text.proofs.Repeating.{Extends, IsCalled, last_text, stays_push}
+use Rattle.scenario_text.proofs.Repeating.{Extends, IsCalled, last_text, extends_thread}
 use Rattle.scenario_text.proofs.Within.{passed_none}
 
 later_repeats : (d : Lines) (names : List Entry) (section after : Section) (done : List ℕ) → 1 ≤ place_of after → Repeats d names section done → Repeats d names after done
@@ -54,7 +54,7 @@ module _ (line : Line) (s : Said) (done : List ℕ) (kept : Repeated s done) whe
       entry = record { name = name_in line; meaning = Actor (length s.lines.threads + 1) }
 
       before : (e : Lines) → Extends (with_thread s.lines (name_in line)) e → Extends s.lines e
-      before e more = record { eqs = more.eqs; pds = more.pds; cqs = more.cqs; qps = more.qps; threads = stays_push s.lines.threads e.threads (name_in line) more.threads }
+      before e = extends_thread s.lines e (name_in line)
 
       named : (e : Lines) → Extends (with_thread s.lines (name_in line)) e → actor_name e (length s.lines.threads + 1) ≡ name_in line
       named e more =

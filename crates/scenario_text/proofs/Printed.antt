@@ -55,7 +55,7 @@ abbrev pub from_place : ℕ → ℕ → Line → Line
 from_place place zero fields = []
 from_place place (suc n) fields = part_at fields place ∷ from_place (place + 1) n fields
 
-from_all : (place n : ℕ) (fields : Line) → length fields ≡ place + n → from_place place n fields ≡ drop place fields
+pub from_all : (place n : ℕ) (fields : Line) → length fields ≡ place + n → from_place place n fields ≡ drop place fields
 from_all place zero fields h = sym (drop_of_length-le fields (omega (arith, h)))
 from_all place (suc n) fields h =
     let one : suc place ≡ place + 1 = omega arith in

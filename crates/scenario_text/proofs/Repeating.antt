@@ -5,7 +5,12 @@ use Rattle.std.specs.Option.{option_map_or}
 use Rattle.std.proofs.lemmas.List.Elements.{All-head, All-tail}
 use Rattle.std.proofs.lemmas.Option.{none-some}
 use Rattle.std.proofs.lemmas.Slice.Eq.{bytes_eq-Decides}
+use Rattle.verbs_types.specs.declared.declaration.Connect.{Connect}
+use Rattle.verbs_types.specs.declared.declaration.CqLine.{CqLine}
+use Rattle.verbs_types.specs.declared.declaration.EqLine.{EqLine}
 use Rattle.verbs_types.specs.declared.declaration.Lines.{Lines}
+use Rattle.verbs_types.specs.declared.declaration.PdLine.{PdLine}
+use Rattle.verbs_types.specs.declared.declaration.QpLine.{QpLine}
 use Rattle.verbs_types.specs.declared.declaration.Object.TheVariants as objects
 use Rattle.scenario_text.specs.Heads.{text_at, eq_name, pd_name, cq_name, qp_name}
 use Rattle.scenario_text.specs.Naming.{Entry, meaning_of, number_as, number_named}
@@ -14,6 +19,7 @@ use Rattle.scenario_text.specs.declared.names.Meaning.{Meaning}
 use Rattle.scenario_text.specs.declared.names.Meaning.TheVariants.{Taken, Actor, Object}
 use Rattle.scenario_text.specs.declared.slot.Kind.{Kind}
 use Rattle.scenario_text.specs.declared.slot.Kind.TheVariants as kinds
+use Rattle.scenario_text.proofs.Declaring.{with_eq, with_pd, with_cq, with_qp, with_connect, with_thread}
 use Rattle.scenario_text.proofs.Growing.{push_last}
 
 -- what is there is there later too
@@ -49,6 +55,26 @@ pub record Extends (d e : Lines) : Type 0 where
 
 pub extends_same : (d : Lines) → Extends d d
 extends_same d = record { eqs = stays_same d.eqs; pds = stays_same d.pds; cqs = stays_same d.cqs; qps = stays_same d.qps; threads = stays_same d.threads }
+
+-- what comes after one more line comes after those before it
+module _ (d e : Lines) where
+  pub extends_eq : (l : EqLine) → Extends (with_eq d l) e → Extends d e
+  extends_eq l h = record { eqs = stays_push d.eqs e.eqs l h.eqs; pds = h.pds; cqs = h.cqs; qps = h.qps; threads = h.threads }
+
+  pub extends_pd : (l : PdLine) → Extends (with_pd d l) e → Extends d e
+  extends_pd l h = record { eqs = h.eqs; pds = stays_push d.pds e.pds l h.pds; cqs = h.cqs; qps = h.qps; threads = h.threads }
+
+  pub extends_cq : (l : CqLine) → Extends (with_cq d l) e → Extends d e
+  extends_cq l h = record { eqs = h.eqs; pds = h.pds; cqs = stays_push d.cqs e.cqs l h.cqs; qps = h.qps; threads = h.threads }
+
+  pub extends_qp : (l : QpLine) → Extends (with_qp d l) e → Extends d e
+  extends_qp l h = record { eqs = h.eqs; pds = h.pds; cqs = h.cqs; qps = stays_push d.qps e.qps l h.qps; threads = h.threads }
+
+  pub extends_connect : (l : Connect) → Extends (with_connect d l) e → Extends d e
+  extends_connect l h = record { eqs = h.eqs; pds = h.pds; cqs = h.cqs; qps = h.qps; threads = h.threads }
+
+  pub extends_thread : (name : List ℕ) → Extends (with_thread d name) e → Extends d e
+  extends_thread name h = record { eqs = h.eqs; pds = h.pds; cqs = h.cqs; qps = h.qps; threads = stays_push d.threads e.threads name h.threads }
 
 -- the number of this kind is that of the name
 abbrev pub HasName : Lines → Kind → ℕ → List ℕ → Type 0

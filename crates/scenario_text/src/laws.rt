@@ -3,6 +3,7 @@ ghost use Rattle.std.specs.Prelude.{ℕ, ◌≡◌, List};
 ghost use Rattle.scenario_text.specs.Heads.{head_text};
 ghost use Rattle.scenario_text.specs.Printing.{head_alone, head_of, without_comments};
 ghost use Rattle.scenario_text.specs.Running.{CanRun};
+ghost use Rattle.scenario_text.specs.Spelling.{scenario_text};
 ghost use Rattle.scenario_text.specs.Whole.{Says};
 ghost use Rattle.scenario_text.specs.declared.scenario.ScenarioParts.{ScenarioParts};
 
@@ -31,4 +32,14 @@ pub fn comments_say_nothing()
 /// A text says one scenario at most.
 pub fn texts_say_one()
     ensures { (text : List ℕ) (s t : ScenarioParts) → Says text s → Says text t → s ≡ t }
+{}
+
+/// A text without its comments and empty lines is the text that is printed of the scenario that it says.
+pub fn texts_are_printed()
+    ensures { (text : List ℕ) (s : ScenarioParts) → Says text s → scenario_text s ≡ without_comments text }
+{}
+
+/// The text that is printed of a scenario, read back, says that scenario.
+pub fn printed_is_read()
+    ensures { (text : List ℕ) (s : ScenarioParts) → Says text s → Says (scenario_text s) s }
 {}
