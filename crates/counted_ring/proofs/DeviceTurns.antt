@@ -3,19 +3,28 @@ use Rattle.std.proofs.Common.{◌≡◌, ◌≢◌, ℕ, ◌+◌, ◌-◌, ◌*�
 use Rattle.std.specs.Prelude.{slice_index, slice_set}
 use Rattle.std.proofs.Math.Nat.{mul-le-mul_right, div-lt_iff_lt-mul}
 use Rattle.std.proofs.lemmas.Bool.{cases_lt, eq-eqb, ne_eqb}
-use Rattle.std.proofs.lemmas.List.{length-take-le, length-set}
+use Rattle.std.proofs.lemmas.List.{length-take-le, length-set, get_or-set_other}
 use Rattle.bus_core.specs.declared.operation.BusEntry.{BusEntry}
+use Rattle.bus_core.specs.declared.turn.Step.{Step}
 use Rattle.bus_core.specs.declared.turn.Step.TheVariants.{More, Done}
 use Rattle.bus_core.specs.Operation.{IsLoad, loaded}
+use Rattle.work_entries.specs.declared.units.SendWords.{SendWords}
 use Rattle.counted_ring.specs.declared.place.WqPlace.{WqPlace}
+use Rattle.counted_ring.specs.declared.device.WqSeen.{WqSeen}
 use Rattle.counted_ring.specs.declared.device.WqSeen.TheVariants as answers
-use Rattle.counted_ring.specs.Place.{IsPlace, most, touches, word_at}
+use Rattle.counted_ring.specs.Place.{IsPlace, most, touches, word_at, IsClearBehind}
 use Rattle.counted_ring.specs.Queue.{Took}
 use Rattle.counted_ring.specs.Device.{MayRead, reach, is_whole}
 use Rattle.counted_ring.specs.DeviceView.{DeviceView, DeviceTurn, Read}
 use Rattle.counted_ring.specs.DeviceInside.{IsReading}
 use Rattle.counted_ring.proofs.Shape.{product_some}
 use Rattle.counted_ring.proofs.Parts.{long, read_front, read_first, first_kept}
+
+abbrev read : SendWords → Step (Unit {0}) WqSeen
+read entry = Done (answers.Read entry)
+
+same_entry : (a b : SendWords) → read a ≡ read b → a ≡ b
+same_entry a b is = cc
 
 module _ (place : WqPlace) (next ready register n w blocks : ℕ) (words : List ℕ)
     (ok : IsPlace place) (full : length words ≡ 32) (reads : IsReading place next ready n words)
@@ -35,10 +44,13 @@ module _ (place : WqPlace) (next ready register n w blocks : ℕ) (words : List 
   all_in : blocks * place.stride ≤ 32
   all_in = omega (arith, ok.few_words, mul-le-mul_right place.stride few)
 
+  behind_more : (k : ℕ) → n + 1 ≤ k → slice_index (slice_set words n w) k ≡ 0
+  behind_more k past = get_or-set_other words n k w 0 (omega (arith, past)) ∙ reads.behind k (omega (arith, past))
+
   pub reads_more : n + 1 ≢ blocks * place.stride → IsReading place next ready (n + 1) (slice_set words n w)
   reads_more part =
       let on : n + 1 < blocks * place.stride = omega (arith, below, part) in
-      record { ready_some = reads.ready_some; low = reads.low; few = omega (arith, on, all_in); part = λ h. subst (λ (b : ℕ). n + 1 < b * place.stride) blocks_are on }
+      record { ready_some = reads.ready_some; low = reads.low; few = omega (arith, on, all_in); behind = behind_more; part = λ h. subst (λ (b : ℕ). n + 1 < b * place.stride) blocks_are on }
 
   whole_is : is_whole place ready (take n words ++ w ∷ []) ≡ eqb (n + 1) (blocks * place.stride)
   whole_is = ap (λ k. eqb k (reach place ready (slice_index (take n words ++ w ∷ []) 0) * place.stride)) (long words n w inside)
@@ -71,6 +83,7 @@ module _ (place : WqPlace) (next ready register n w blocks : ℕ) (words : List 
           says = rw test refl;
           looked = λ is. absurd cc;
           counted = λ k is. absurd cc;
+          behind = λ entry is. absurd cc;
           task = refl;
           fewer = omega (arith, short, length-take-le (n + 1) (slice_set words n w) (omega (arith, inside, length-set words n w)), inside, full);
           place = refl;
@@ -88,6 +101,7 @@ module _ (place : WqPlace) (next ready register n w blocks : ℕ) (words : List 
           says = rw test (ap (λ ws. Some (Took ws)) (sym front));
           looked = λ is. absurd cc;
           counted = λ k is. absurd cc;
+          behind = λ entry is. subst (IsClearBehind place) (same_entry (record { blocks = blocks; words = slice_set words n w }) entry is) (λ k past. behind_more k (omega (arith, all, past)));
           task = refl;
           fewer = omega (arith, short, inside, full);
           place = refl;

@@ -1,11 +1,11 @@
 -- The first words of an entry, with one more.
 use Rattle.std.proofs.Common.{◌≡◌, ℕ, ◌+◌, ◌*◌, ◌%◌, ◌^◌, ◌<◌, ◌≤◌, zero, suc, inl, inr, refl, ap, sym, ◌∙◌, subst, arith, cond, leb, List, [], ◌∷◌, ◌++◌, length, get_or, take, length-append}
-use Rattle.std.specs.Prelude.{slice_index, slice_set}
+use Rattle.std.specs.Prelude.{slice_index, slice_set, replicate}
 use Rattle.std.proofs.Math.Nat.{mul-le-mul_right}
-use Rattle.std.proofs.lemmas.Bool.{cond_both, cases_Bool}
+use Rattle.std.proofs.lemmas.Bool.{cond_both, cases_Bool, cases_lt}
 use Rattle.counted_ring.specs.declared.place.WqPlace.{WqPlace}
 use Rattle.counted_ring.specs.Place.{IsPlace, is_send, unit_blocks, span, most}
-use Rattle.std.proofs.lemmas.List.{take_more, take_more_set, length-take-le, get_or-take}
+use Rattle.std.proofs.lemmas.List.{take_more, take_more_set, length-take-le, get_or-take, get_or-replicate, get_or_past, length-replicate}
 
 pub long : (words : List ℕ) (n w : ℕ) → n < length words → length (take n words ++ w ∷ []) ≡ n + 1
 long words n w h = omega (arith, length-append (take n words) (w ∷ []), length-take-le n words (omega (arith, h)))
@@ -23,6 +23,13 @@ read_front words n w h = sym (take_more_set words n w h)
 
 pub read_first : (words : List ℕ) (n w : ℕ) → n < length words → slice_index (take n words ++ w ∷ []) 0 ≡ slice_index (slice_set words n w) 0
 read_first words n w h = ap (λ (ws : List ℕ). slice_index ws 0) (read_front words n w h) ∙ get_or-take (n + 1) (slice_set words n w) 0 0 (omega arith)
+
+-- a word of zeros
+pub zero_words : (n k : ℕ) → slice_index (replicate n 0) k ≡ 0
+zero_words n k = elim (cases_lt k n) [
+  | inl inside ↦ get_or-replicate n k 0 0 inside
+  | inr past ↦ get_or_past (replicate n 0) k 0 (omega (arith, past, length-replicate {A = ℕ} n 0))
+]
 
 -- a word behind the first leaves the first
 pub first_kept : (words : List ℕ) (n w : ℕ) → 0 < n → slice_index (slice_set words n w) 0 ≡ slice_index words 0

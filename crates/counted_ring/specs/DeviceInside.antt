@@ -1,5 +1,5 @@
 -- How the fields of a queue's device are seen.
-use Rattle.std.specs.Prelude.{ℕ, ◌≡◌, ◌*◌, ◌<◌, ◌^◌, true, List, [], take, slice_index, Option, Some, None}
+use Rattle.std.specs.Prelude.{ℕ, ◌≡◌, ◌*◌, ◌<◌, ◌≤◌, ◌^◌, true, List, [], take, slice_index, Option, Some, None}
 use Rattle.counted_ring.specs.declared.place.WqPlace.{WqPlace}
 use Rattle.counted_ring.specs.declared.device.Phase.{Phase}
 use Rattle.counted_ring.specs.declared.device.Phase.TheVariants as phases
@@ -28,6 +28,7 @@ pub record IsReading (place : WqPlace) (next ready loaded : ℕ) (words : List �
   pub ready_some : 0 < ready
   pub low : next < 2 ^ 62
   pub few : loaded < 32
+  pub behind : (k : ℕ) → loaded ≤ k → slice_index words k ≡ 0
   pub part : 0 < loaded → loaded < reach place ready (slice_index words 0) * place.stride
 
 abbrev pub IsAtWork : WqPlace → ℕ → ℕ → List ℕ → Phase → Type 0

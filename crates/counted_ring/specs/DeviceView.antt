@@ -4,10 +4,11 @@ use Rattle.bus_core.specs.declared.operation.BusEntry.{BusEntry}
 use Rattle.bus_core.specs.declared.turn.Step.{Step}
 use Rattle.bus_core.specs.declared.turn.Step.TheVariants.{More, Gave, Done}
 use Rattle.bus_core.specs.Operation.{loaded}
+use Rattle.work_entries.specs.declared.units.SendWords.{SendWords}
 use Rattle.counted_ring.specs.declared.place.WqPlace.{WqPlace}
 use Rattle.counted_ring.specs.declared.device.WqSeen.{WqSeen}
 use Rattle.counted_ring.specs.declared.device.WqSeen.TheVariants as answers
-use Rattle.counted_ring.specs.Place.{touches, shown, entry_words}
+use Rattle.counted_ring.specs.Place.{touches, shown, entry_words, IsClearBehind}
 use Rattle.counted_ring.specs.Queue.{WqEvent, Counted, Took}
 use Rattle.counted_ring.specs.Device.{WqReader, MayLook, MayRecord, MayRead, after_look, after_record, after_read, read_says}
 use Rattle.counted_ring.specs.Mark as marks
@@ -76,6 +77,8 @@ pub record DeviceTurn (old new : DeviceView) (e : BusEntry) (answer : Step (Unit
   pub looked : old.task ≡ Some Look → answer ≡ (if loaded e == old.side.register then Done answers.Same else Done answers.Changed)
   -- blocks that were counted are ready
   pub counted : (ready : ℕ) → answer ≡ Done (answers.Count ready) → new.side.ready ≡ ready
+  -- an entry that was read has no word behind its blocks
+  pub behind : (entry : SendWords) → answer ≡ Done (answers.Read entry) → IsClearBehind old.place entry
   pub task : new.task ≡ task_after old.task answer
   pub fewer : turns_left new.task new.side < turns_left old.task old.side
   pub place : new.place ≡ old.place

@@ -41,6 +41,10 @@ most place = if is_send place then 4 else 1
 abbrev pub entry_words : WqPlace → SendWords → List ℕ
 entry_words place entry = take (entry.blocks * place.stride) entry.words
 
+-- no words are behind the blocks of an entry
+abbrev pub IsClearBehind : WqPlace → SendWords → Type 0
+IsClearBehind place entry = (k : ℕ) → entry.blocks * place.stride ≤ k → slice_index entry.words k ≡ 0
+
 -- the record of a block index: its low 16 bits
 abbrev pub record_of : ℕ → ℕ
 record_of index = index % 2 ^ 16
