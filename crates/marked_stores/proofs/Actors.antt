@@ -13,8 +13,6 @@ use Rattle.verbs_types.specs.declared.request.Item.TheVariants.{Request as TheRe
 use Rattle.verbs_rules.specs.Within.{Bounds}
 use Rattle.verbs_rules.specs.Running.{Running}
 use Rattle.cqe_format.specs.declared.completion.Cqe.{Cqe}
-use Rattle.owner_ring.specs.declared.place.RingPlace.{RingPlace}
-use Rattle.owner_ring.specs.Place.{slot}
 use Rattle.owner_ring.proofs.Slots.{slot_not_record, touches_slot}
 use Rattle.cq_pair.specs.Place.{ring_of}
 use Rattle.cq_pair.specs.Queue.{QueueEvent}
@@ -39,7 +37,7 @@ use Rattle.actor_rules.proofs.PostNow.{object_of, QueueTied, queue_tied, retirer
 use Rattle.actor_rules.proofs.Queues.{QueueLives}
 use Rattle.marked_stores.specs.News.{IsNews}
 use Rattle.marked_stores.specs.Stores.{SaysEntry}
-use Rattle.marked_stores.proofs.Places.{IsNewsIn, news_in, ended_no_news}
+use Rattle.marked_stores.proofs.Places.{AreWords, IsNewsIn, news_in, ended_no_news}
 use Rattle.marked_stores.proofs.Polls.{poll_told}
 use Rattle.marked_stores.proofs.Posters as posters
 use Rattle.marked_stores.proofs.Publications as publications
@@ -52,24 +50,24 @@ some_made f (Some a) h = refl
 -- a word beside the tail and the record of a queue is no news of it
 beside_no_news : (d : Lines) (queue : Queue) (a : ℕ) → QueueLives d queue → a ≢ (queue_place d queue).tail → a ≢ (queue_place d queue).dbr → IsNewsIn d (object_of queue) a → ⊥
 beside_no_news d (queues.Send qp) a lives tail dbr news = elim news [ inl record_word ↦ dbr record_word | inr tail_word ↦ tail tail_word ]
-beside_no_news d (queues.Recv qp) a lives tail dbr news = dbr news
+beside_no_news d (queues.Recv qp) a lives tail dbr news = elim news [ inl record_word ↦ dbr record_word | inr tail_word ↦ tail tail_word ]
 beside_no_news d (queues.Shared srq) a lives tail dbr news = lives
 
-slots_of_words : (place : RingPlace) (i j k : ℕ) → k < 7 → slot place i k ≡ slot place j 7 → ⊥
-slots_of_words place i j k early same = omega (arith, early, same)
-
 -- nor is a word of a completion that is not its last
-plain_no_news : (d : Lines) (map_ok : IsMapped d) (cq a : ℕ) → Lives d (Completions cq) → publications.IsPlainWord (ring_of (completions_of d cq)) a → IsNews d a → ⊥
-plain_no_news d map_ok cq a lives plain news =
+plain_no_news : (d : Lines) (words : AreWords d) (cq a : ℕ) → Lives d (Completions cq) → publications.IsPlainWord (ring_of (completions_of d cq)) a → IsNews d a → ⊥
+plain_no_news d words cq a lives plain news =
     let place = ring_of (completions_of d cq) in
     let few : plain.word < 8 = omega (arith, plain.early) in
     let inside : touches d (Completions cq) a ≡ true = subst (λ (n : ℕ). touches d (Completions cq) n ≡ true) (sym plain.is) (touches_slot place plain.index plain.word few) in
-    elim (news_in d map_ok (Completions cq) a lives inside news) [
-      | inl record_word ↦ slot_not_record place plain.index plain.word (map_ok.placed d (Completions cq) map_ok.declared lives).fine few (sym plain.is ∙ record_word)
-      | inr owner ↦ slots_of_words place plain.index owner.index plain.word plain.early (sym plain.is ∙ owner.is)
+    elim (news_in d words (Completions cq) a lives inside news) [
+      | inl record_word ↦ slot_not_record place plain.index plain.word (words.map.placed d (Completions cq) words.map.declared lives).fine few (sym plain.is ∙ record_word)
+      | inr owner ↦ omega (arith, plain.is, plain.early, owner.is)
     ]
 
-module _ (d : Lines) (programs : List (List Call)) (bounds : Bounds) (map_ok : IsMapped d) (m : Memory) (w : Actors) (r : Running) (x : Marked Mark) (holds : Holds d programs bounds m w r) (writes : x.entry.op ≢ Load) (news : IsNews d x.entry.addr) where
+module _ (d : Lines) (programs : List (List Call)) (bounds : Bounds) (words : AreWords d) (m : Memory) (w : Actors) (r : Running) (x : Marked Mark) (holds : Holds d programs bounds m w r) (writes : x.entry.op ≢ Load) (news : IsNews d x.entry.addr) where
+  abbrev map_ok : IsMapped d
+  map_ok = words.map
+
   -- Threads
 
   module _ (t : ℕ) where
@@ -84,7 +82,7 @@ module _ (d : Lines) (programs : List (List Call)) (bounds : Bounds) (map_ok : I
         let mark = mark_of (now_of (length items) s.posting) in
         let tied : QueueTied d programs m w queue (s.posters queue) q = subst (λ (n : ℕ). QueueTied d programs m w queue ((w.threads n).posters queue) q) call.own.1.owner (queue_tied d programs queue m w holds.stands.lists lives holds.stands.bare.objects) in
         let inside = touches_queue d programs queue x.entry.addr lives (bring_inside (queue_place d queue) fine x.entry m (s.posters queue) (retirer_at d programs w queue) (reader_at d w queue) q mark tied may.goes_on.brings) in
-        let here = news_in d map_ok (object_of queue) x.entry.addr (object_lives d programs queue lives) inside news in
+        let here = news_in d words (object_of queue) x.entry.addr (object_lives d programs queue lives) inside news in
         elim (posters.brings (queue_place d queue) fine x.entry m (s.posters queue) (retirer_at d programs w queue) (reader_at d w queue) q mark tied may.goes_on.brings) [
           | posters.Loads load ↦ absurd (writes load)
           | posters.Beside tail dbr ↦ absurd (beside_no_news d queue x.entry.addr lives tail dbr here)
@@ -92,7 +90,7 @@ module _ (d : Lines) (programs : List (List Call)) (bounds : Bounds) (map_ok : I
         ]
 
     call_told : (calls : List Call) → s.calls ≡ calls → MayCall d s (suc t) calls x → is_some (call_says d s calls x) ≡ true
-    call_told [] is may = absurd (ended_no_news d map_ok x.entry.addr may.sets.at_address news)
+    call_told [] is may = absurd (ended_no_news d words x.entry.addr may.sets.at_address news)
     call_told (Post qp requests ∷ rest) is may =
         let stands = holds.stands.bare.threads t in
         post_told (queues.Send qp) (map TheRequest requests) rest (post_call d programs (suc t) s qp requests rest is stands.calls stands.work) may
@@ -116,7 +114,7 @@ module _ (d : Lines) (programs : List (List Call)) (bounds : Bounds) (map_ok : I
       let tied = publishes.tied d programs bounds map_ok m w r.verbs holds.dues holds.stands cq c owes in
       elim (publications.delivers (completions_of d cq) c x.entry m tied.entries (a.queues cq) (a.queues cq).overrun tied.ring.producer may) [
         | publications.Loads load ↦ absurd (writes load)
-        | publications.Fills plain ↦ absurd (plain_no_news d map_ok cq x.entry.addr lives plain news)
+        | publications.Fills plain ↦ absurd (plain_no_news d words cq x.entry.addr lives plain news)
         | publications.Publishes index is ↦ ap (λ (said : Option QueueEvent). is_some (option_map (adapter_entry w.posted) (publish_said cq (a.taken a.visit) said))) is
       ]
 
@@ -132,5 +130,5 @@ module _ (d : Lines) (programs : List (List Call)) (bounds : Bounds) (map_ok : I
   what_told (suc t) may = call_told t (w.threads (suc t)).calls refl may
 
 -- an operation that keeps its actor's rule
-pub told : (d : Lines) (programs : List (List Call)) (bounds : Bounds) → IsMapped d → (m : Memory) (w : Actors) (r : Running) (x : Marked Mark) → Holds d programs bounds m w r → MayAny d w x → SaysEntry d w x
-told d programs bounds map_ok m w r x holds may writes news = some_made (by x.entry.actor) (what_of d w x.entry.actor x) (what_told d programs bounds map_ok m w r x holds writes news x.entry.actor may)
+pub told : (d : Lines) (programs : List (List Call)) (bounds : Bounds) → AreWords d → (m : Memory) (w : Actors) (r : Running) (x : Marked Mark) → Holds d programs bounds m w r → MayAny d w x → SaysEntry d w x
+told d programs bounds words m w r x holds may writes news = some_made (by x.entry.actor) (what_of d w x.entry.actor x) (what_told d programs bounds words m w r x holds writes news x.entry.actor may)

@@ -9,8 +9,8 @@ ghost use Rattle.marked_stores.specs.Stores.{SayEntries};
 
 use object_places::laws as places;
 
-/// In every run each operation that writes the record of a send or receive queue, the tail of a send queue, or the
-/// consumer index or an owner word of a completion queue is one that says an entry of the history.
+/// In every run each operation that writes a word of news says an entry of the history: a record or a tail of a send
+/// or receive queue, and of a completion queue the owner words of both areas, the consumer index and the words of arms.
 pub fn stores_are_told()
     ensures { (d : Lines) (programs : List (List Call)) (bounds : Bounds) (phases : Phases) →
         AreReady d programs bounds → IsRun d programs phases → SayEntries d programs (whole phases) }
@@ -18,4 +18,5 @@ pub fn stores_are_told()
     places::places();
     places::apart();
     places::starts();
+    places::words();
 }

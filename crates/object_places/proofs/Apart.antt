@@ -13,6 +13,7 @@ use Rattle.object_places.specs.declared.ended.TheConstants.{ENDED_WORD}
 use Rattle.object_places.specs.Apart.{AreApart, ArePlaced, IsObjectPlace, IsPlacedObject}
 use Rattle.object_places.specs.Objects.{Object, Completions, Sends, Receives, Lives, touches}
 use Rattle.object_places.specs.Places.{cq_line, qp_line}
+use Rattle.object_places.specs.Words.{AreOfObjects, AreOwn, AreUsed, IsWordOf}
 use Rattle.object_places.proofs.Bounds.{words_few}
 use Rattle.object_places.proofs.Fine.{completions_fine, receives_fine, sends_fine}
 use Rattle.object_places.proofs.Lines.{IsCq, IsQp, is_cq, is_qp}
@@ -31,9 +32,16 @@ words d (Sends qp) = qp_words (qp_line d qp)
 words d (Receives qp) = qp_words (qp_line d qp)
 
 module _ (d : Lines) (declared : IsTrue (is_declared d)) where
-  -- an object's words are those that the map has for it
-  lies : (o : Object) (a : ℕ) → Lives d o → touches d o a ≡ true → Lies (begins d (home d o)) (begins d (home d o) + words d o) a
-  lies (Completions cq) a lives h = in_completions cq (begins d (home d (Completions cq))) (cq_line d cq) a (is_cq d cq declared lives).log h
+  -- a queue uses words that the map has for it
+  used : (o : Object) (a : ℕ) → Lives d o → touches d o a ≡ true → IsWordOf d o a
+  used (Completions cq) a lives h =
+      let l = in_completions cq (begins d (home d (Completions cq))) (cq_line d cq) a (is_cq d cq declared lives).log h in
+      (l.low, omega (arith, l.high))
+  used (Sends qp) a lives h = h
+  used (Receives qp) a lives h = h
+
+  lies : (o : Object) (a : ℕ) → Lives d o → IsWordOf d o a → Lies (begins d (home d o)) (begins d (home d o) + words d o) a
+  lies (Completions cq) a lives h = record { low = h.0; high = omega (arith, h.1) }
   lies (Sends qp) a lives h = sends_lie (begins d (home d (Sends qp))) (qp_line d qp) a (in_sends (begins d (home d (Sends qp))) (qp_line d qp) a h)
   lies (Receives qp) a lives h =
       let r = in_receives (begins d (home d (Receives qp))) (qp_line d qp) a h in
@@ -58,7 +66,7 @@ module _ (d : Lines) (declared : IsTrue (is_declared d)) where
   other_kind : (cq qp : ℕ) → IsCq d cq → place (map_of d) Cq cq ≡ place (map_of d) Qp qp → ⊥
   other_kind cq qp h same = omega (arith, same, h.below)
 
-  one_home : (o p : Object) (a : ℕ) → Lives d o → Lives d p → o ≢ p → home d o ≡ home d p → touches d o a ≡ true → touches d p a ≡ true → ⊥
+  one_home : (o p : Object) (a : ℕ) → Lives d o → Lives d p → o ≢ p → home d o ≡ home d p → IsWordOf d o a → IsWordOf d p a → ⊥
   one_home (Completions cq) (Completions other) a lives lives_too differ same h k = differ (ap Completions (same_cq cq other same))
   one_home (Completions cq) (Sends qp) a lives lives_too differ same h k = other_kind cq qp (is_cq d cq declared lives) same
   one_home (Completions cq) (Receives qp) a lives lives_too differ same h k = other_kind cq qp (is_cq d cq declared lives) same
@@ -75,7 +83,7 @@ module _ (d : Lines) (declared : IsTrue (is_declared d)) where
     object_stands (Sends qp) lives = qp_stands whole inside d qp (is_qp d qp declared lives).number
     object_stands (Receives qp) lives = qp_stands whole inside d qp (is_qp d qp declared lives).number
 
-    object_inside : (o : Object) (a : ℕ) → Lives d o → touches d o a ≡ true → (FIRST_OBJECT ≤ a) × (a < words_of d)
+    pub object_inside : (o : Object) (a : ℕ) → Lives d o → IsWordOf d o a → (FIRST_OBJECT ≤ a) × (a < words_of d)
     object_inside o a lives h =
         let s = object_stands o lives in
         let l = lies o a lives h in
@@ -90,14 +98,14 @@ module _ (d : Lines) (declared : IsTrue (is_declared d)) where
 
     not_ended : (o : Object) → Lives d o → touches d o ENDED_WORD ≡ false
     not_ended o lives = elim (cases_Bool (touches d o ENDED_WORD)) [
-      | inl h ↦ absurd (omega (arith, (object_inside o ENDED_WORD lives h).0))
+      | inl h ↦ absurd (omega (arith, (object_inside o ENDED_WORD lives (used o ENDED_WORD lives h)).0))
       | inr h ↦ h
     ]
 
     pub object_placed : (o : Object) → Lives d o → IsPlacedObject d o
-    object_placed o lives = record { fine = object_fine o lives; inside = λ a h. object_inside o a lives h; ended = not_ended o lives }
+    object_placed o lives = record { fine = object_fine o lives; inside = λ a h. object_inside o a lives (used o a lives h); ended = not_ended o lives }
 
-    two_homes : map.AreApart → (o p : Object) (a : ℕ) → Lives d o → Lives d p → home d o < home d p → touches d o a ≡ true → touches d p a ≡ true → ⊥
+    two_homes : map.AreApart → (o p : Object) (a : ℕ) → Lives d o → Lives d p → home d o < home d p → IsWordOf d o a → IsWordOf d p a → ⊥
     two_homes apart o p a lives lives_too low h k =
         let first = object_stands o lives in
         let second = object_stands p lives_too in
@@ -105,7 +113,7 @@ module _ (d : Lines) (declared : IsTrue (is_declared d)) where
         let m = lies p a lives_too k in
         omega (arith, apart d (home d o) (home d p) low second.listed, first.size_is, l.high, m.low)
 
-    none_in_both : map.AreApart → (o p : Object) (a : ℕ) → Lives d o → Lives d p → o ≢ p → touches d o a ≡ true → touches d p a ≡ true → ⊥
+    pub none_in_both : map.AreApart → (o p : Object) (a : ℕ) → Lives d o → Lives d p → o ≢ p → IsWordOf d o a → IsWordOf d p a → ⊥
     none_in_both apart o p a lives lives_too differ h k = elim (cases_order (home d o) (home d p)) [
       | inl same ↦ one_home o p a lives lives_too differ same h k
       | inr other ↦ elim other [
@@ -116,7 +124,7 @@ module _ (d : Lines) (declared : IsTrue (is_declared d)) where
 
     pub objects_apart : map.AreApart → (o p : Object) (a : ℕ) → Lives d o → Lives d p → o ≢ p → touches d o a ≡ true → touches d p a ≡ false
     objects_apart apart o p a lives lives_too differ h = elim (cases_Bool (touches d p a)) [
-      | inl k ↦ absurd (none_in_both apart o p a lives lives_too differ h k)
+      | inl k ↦ absurd (none_in_both apart o p a lives lives_too differ (used o a lives h) (used p a lives_too k))
       | inr k ↦ k
     ]
 
@@ -125,3 +133,12 @@ placed_of whole inside = λ d o declared lives. object_placed d declared whole i
 
 pub apart_of : IsWhole → AreInside → map.AreApart → AreApart
 apart_of whole inside apart = λ d o p a declared lives lives_too differ h. objects_apart d declared whole inside apart o p a lives lives_too differ h
+
+pub used_of : AreUsed
+used_of = λ d o a declared lives h. used d declared o a lives h
+
+pub own_of : IsWhole → AreInside → map.AreApart → AreOwn
+own_of whole inside apart = λ d o p a declared lives lives_too differ h k. none_in_both d declared whole inside apart o p a lives lives_too differ h k
+
+pub of_objects_of : IsWhole → AreInside → AreOfObjects
+of_objects_of whole inside = λ d o a declared lives h. object_inside d declared whole inside o a lives h

@@ -1,5 +1,5 @@
 -- The ranges of each queue's words.
-use Rattle.std.proofs.Common.{◌≡◌, ℕ, ◌+◌, ◌^◌, ◌<◌, ◌≤◌, inl, inr, arith, Some, true}
+use Rattle.std.proofs.Common.{◌≡◌, ℕ, ◌+◌, ◌^◌, ◌<◌, ◌≤◌, inl, inr, arith, true}
 use Rattle.std.proofs.Math.Pow.{pow_mono}
 use Rattle.verbs_types.specs.declared.declaration.CqLine.{CqLine}
 use Rattle.verbs_types.specs.declared.declaration.QpLine.{QpLine}

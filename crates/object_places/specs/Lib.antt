@@ -1,3 +1,4 @@
 pub mod Places
 pub mod Objects
 pub mod Apart
+pub mod Words

@@ -1,5 +1,6 @@
 //! Laws of the queues' words that hold with no code.
 ghost use Rattle.object_places.specs.Apart.{AreApart, AreAtStart, ArePlaced};
+ghost use Rattle.object_places.specs.Words.{AreOfObjects, AreOwn, AreUsed};
 
 use actor_map::laws as map;
 
@@ -15,6 +16,18 @@ pub fn places()
 /// Two queues have no word in common, the two of one queue pair included.
 pub fn apart()
     ensures { AreApart }
+{
+    map::whole();
+    map::inside();
+    map::apart();
+}
+
+/// Nor do they have one where the words count that the map has for a queue and nobody uses yet: of a completion queue
+/// the second area, the record's second word, the arm register and the sequence number.
+pub fn words()
+    ensures used { AreUsed }
+    ensures own { AreOwn }
+    ensures of_objects { AreOfObjects }
 {
     map::whole();
     map::inside();
