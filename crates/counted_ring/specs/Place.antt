@@ -1,6 +1,7 @@
 -- Where a counted queue lies, and what its words say.
 use Rattle.std.specs.Prelude.{ℕ, ◌≡◌, ◌+◌, ◌-◌, ◌*◌, ◌/◌, ◌%◌, ◌^◌, ◌<◌, ◌≤◌, ◌==◌, ◌&&◌, ◌||◌, nat_le, nat_lt, if◌then◌else◌, Bool, true, false, Option, Some, None, List, take, slice_index}
 use Rattle.work_entries.specs.declared.units.SendWords.{SendWords}
+use Rattle.work_entries.specs.Front.{units_in}
 use Rattle.counted_ring.specs.declared.place.WqPlace.{WqPlace}
 
 abbrev pub has_register : Option ℕ → Bool
@@ -25,9 +26,9 @@ head_at place index = place.heads + index % place.blocks
 abbrev pub unit_blocks : ℕ → ℕ
 unit_blocks units = if nat_le units 4 then 1 else if nat_le units 8 then 2 else if nat_le units 12 then 3 else 4
 
--- how many blocks the entry of this first word takes: a control segment has the number of units in its low 6 bits
+-- how many blocks the entry of this first word takes, which is a control segment's in a send queue
 abbrev pub span : WqPlace → ℕ → ℕ
-span place first = if is_send place then unit_blocks (first % 2 ^ 6) else 1
+span place first = if is_send place then unit_blocks (units_in first) else 1
 
 -- how many words the entry has that begins with these
 abbrev pub all_words : WqPlace → List ℕ → ℕ

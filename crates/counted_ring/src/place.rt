@@ -3,6 +3,8 @@ ghost use Rattle.std.specs.Prelude.{◌≡◌, ◌<◌, ◌≤◌, ◌*◌, ◌^
 ghost use Rattle.counted_ring.specs.Device.{reach};
 ghost use Rattle.counted_ring.specs.Place as words;
 
+use work_entries::units_in;
+
 /// Where a send or a receive queue lies, in words of the bus: its ring of `blocks` blocks of `stride`
 /// words, an id word and a head word for each block, the tail word, the word of the doorbell record
 /// and, for a send queue, the register. At most `max_post` requests are posted and not retired. The
@@ -84,7 +86,7 @@ impl WqPlace {
         ensures few { result ≤ words.most self.now }
     {
         if self.is_send() {
-            unit_blocks(first & 0x3f)
+            unit_blocks(units_in(first))
         } else {
             1
         }

@@ -1,6 +1,7 @@
 pub mod Grammar
 pub mod Encoding
 pub mod Words
+pub mod LastWord
 pub mod Rows
 pub mod Events
 pub mod Completions

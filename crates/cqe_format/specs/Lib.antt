@@ -1,4 +1,5 @@
 pub mod Bytes
+pub mod LastWord
 pub mod Opcode
 pub mod Syndrome
 pub mod Completion

@@ -25,6 +25,9 @@ pub const REQUEST_ERROR: u8 = 13;
 /// A receive failed.
 pub const RECEIVE_ERROR: u8 = 14;
 
+/// No completion was written yet.
+pub const UNWRITTEN: u8 = 15;
+
 /// Whether it reports a receive that succeeded.
 #[inline(always)]
 pub fn is_receive(opcode: u8) -> bool

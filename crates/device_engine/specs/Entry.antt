@@ -1,18 +1,11 @@
 -- What the words of a send entry ask for, and the completion that answers.
 use Rattle.std.specs.Prelude.{ℕ, ◌/◌, ◌%◌, ◌^◌, ◌==◌, ◌&&◌, Bool, false, List, slice_index}
 use Rattle.cqe_format.specs.declared.completion.Cqe.{Cqe}
+use Rattle.work_entries.specs.Front.{opcode_in, is_wanted}
 
--- the opcode is byte 3 of the control segment, whose first eight bytes are the first word
-abbrev pub opcode_in : List ℕ → ℕ
-opcode_in words = slice_index words 0 / 2 ^ 32 % 2 ^ 8
-
--- the flags are byte 11, and 0x08 among them asks for a completion
-abbrev pub flag_in : List ℕ → ℕ
-flag_in words = slice_index words 1 / 2 ^ 35 % 2
-
--- The words are a NOP's that wants a completion. Any other request is taken without one: only NOPs are built.
+-- The control segment is a NOP's that wants a completion. Any other request is taken without one: only NOPs are built.
 abbrev pub wants : List ℕ → Bool
-wants words = (opcode_in words == 0) && (flag_in words == 1)
+wants words = (opcode_in (slice_index words 0) == 0) && is_wanted (slice_index words 1)
 
 -- A NOP of this queue pair succeeded, whose entry's first block has this index. The opcode 0 is that of a requester's success, and the send opcode 0 that of a NOP.
 abbrev pub nop_cqe : ℕ → ℕ → Cqe

@@ -5,16 +5,16 @@ ghost use Rattle.device_engine.specs.Entry.{wants};
 ghost use Rattle.device_engine.specs.Entry.{nop_cqe as nop_of};
 
 use cqe_format::{Cqe, opcode};
+use work_entries::{is_wanted, opcode_in};
 
 /// The opcode of a NOP.
 const NOP: u8 = 0;
 
-/// Whether the words are those of a NOP that wants a completion: byte 3 of the control segment, the
-/// opcode, is 0, and byte 11, the flags, has 0x08 (Programmer's Reference Manual).
+/// Whether the words are those of a NOP that wants a completion.
 pub(crate) fn wants_completion(words: &[u64; 32]) -> bool
     ensures { result ≡ wants words.now }
 {
-    words[0] >> 32 & 0xff == 0 && words[1] >> 35 & 1 == 1
+    opcode_in(words[0]) == NOP && is_wanted(words[1])
 }
 
 /// The completion of a NOP of a queue pair, whose entry's first block has this index.

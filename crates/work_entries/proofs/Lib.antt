@@ -1,4 +1,5 @@
 pub mod Words
+pub mod FrontWords
 pub mod Fills
 pub mod UnitPuts
 pub mod DataSegments

@@ -4,6 +4,7 @@ pub mod InlineBytesInside
 pub mod Opcode
 pub mod Unit
 pub mod Control
+pub mod Front
 pub mod Operation
 pub mod Body
 pub mod Send
