@@ -18,9 +18,9 @@ use Rattle.actor_rules.specs.Ready.{IsOwnCall}
 use Rattle.actor_rules.specs.Thread.{Thread, fresh_thread}
 use Rattle.operation_bounds.specs.Calls.{CallsEnd, is_drain, most_operations, parts_of}
 use Rattle.operation_bounds.specs.Stretch.{thread_by}
-use Rattle.operation_bounds.proofs.Polls.{poll_few}
+use Rattle.provider_poll.proofs.LeftLoads.{poll_few}
 use Rattle.operation_bounds.proofs.PollSteps.{begun_goes}
-use Rattle.operation_bounds.proofs.Posts.{post_few}
+use Rattle.provider_post.proofs.Left.{post_few}
 use Rattle.operation_bounds.proofs.PostSteps.{posting_now}
 use Rattle.operation_bounds.proofs.Steps.{Keeps, step, stands_after, shrinks_all}
 use Rattle.actor_rules.proofs.Holding.{IsMapped}
@@ -36,7 +36,7 @@ few_left d programs x t (Recv qp receives) rest own work plain =
     let few = post_few (length (map TheReceive receives)) (t.posters (queues.Recv qp)).stage (unwrap_or t.posting (fresh_call (length (map TheReceive receives)))) (posting_now (length (map TheReceive receives)) t.posting work.posting) in
     let long : length (map TheReceive receives) ≡ length receives = length-map receives TheReceive in omega (arith, few.1, long)
 few_left d programs x t (Poll cq most) rest own work plain =
-    let few = poll_few most t.given (t.polls cq).host (t.polls cq).retirers (begun most (t.polls cq).state) (begun_goes most t.given (t.polls cq).state own.some work.poll) in omega (arith, few.1)
+    let few = poll_few most (length t.given) (t.polls cq).host (t.polls cq).retirers (begun most (t.polls cq).state) (begun_goes most t.given (t.polls cq).state own.some work.poll) in omega (arith, few.1)
 few_left d programs x t (Drain cq count) rest own work plain = absurd (false≢true (sym plain))
 
 module _ (d : Lines) (programs : List (List Call)) (x : ℕ) (map_ok : IsMapped d) (call : Call) (rest : List Call) (plain : is_drain call ≡ false) where
