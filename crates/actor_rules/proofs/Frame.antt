@@ -9,9 +9,9 @@ use Rattle.cq_pair.proofs.Tied as completions
 use Rattle.counted_ring.proofs.Tied as requests
 use Rattle.object_places.specs.Objects.{Object, Completions, Sends, Receives, Lives, touches}
 use Rattle.object_places.specs.Places.{send_of, receive_of, completions_of}
-use Rattle.actor_rules.proofs.View.{View}
-use Rattle.actor_rules.proofs.Objects.{Lists, Sides, sides, AllTiedIn, TiedAt, TiedIn}
-use Rattle.actor_rules.proofs.Holding.{IsMapped}
+use Rattle.actor_rules.specs.View.{View}
+use Rattle.actor_rules.specs.Objects.{Lists, Sides, sides, AllTiedIn, TiedAt, TiedIn}
+use Rattle.actor_rules.specs.Holding.{IsMapped}
 
 -- an object by the number of its kind and its own
 abbrev code : Object → ℕ × ℕ

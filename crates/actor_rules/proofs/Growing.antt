@@ -8,8 +8,8 @@ use Rattle.counted_ring.specs.declared.place.WqPlace.{WqPlace}
 use Rattle.counted_ring.specs.Queue.{Queue, Request, WqEvent, Wrote, Full, Rang, Named, Found, Retired, Counted, Took, index_of, after_event, after_count}
 use Rattle.counted_ring.proofs.Requests.{request_of, request_before, index_more}
 use Rattle.device_engine.specs.Entry.{nop_cqe}
-use Rattle.actor_rules.proofs.Objects.{Lists}
-use Rattle.actor_rules.proofs.Completions.{IsCompletion}
+use Rattle.actor_rules.specs.Objects.{Lists}
+use Rattle.actor_rules.specs.Completions.{IsCompletion}
 
 -- the requests that were taken are as they were
 pub record Grows (q now : Queue) : Type 0 where

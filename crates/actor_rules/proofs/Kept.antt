@@ -16,11 +16,12 @@ use Rattle.provider_poll.specs.declared.state.PollState.{PollState}
 use Rattle.provider_poll.specs.declared.state.PollState.TheVariants as states
 use Rattle.provider_poll.specs.Rule.{PollRule}
 use Rattle.device_engine.specs.State.{AdapterRule, AdapterAt, Looking, Recording, Reading, Publishing, Ending, send_cq}
-use Rattle.actor_rules.proofs.Adapter.{AdapterStandsAt}
-use Rattle.actor_rules.proofs.Completions.{Counts, Shows, held, CompletionsStand, IsCompletion, PollStands, IsLookedUp}
+use Rattle.actor_rules.specs.Adapter.{AdapterStandsAt}
+use Rattle.actor_rules.specs.Completions.{Counts, Shows, held, CompletionsStand, IsCompletion, PollStands, IsLookedUp}
 use Rattle.actor_rules.proofs.Growing.{Grows, completion_kept}
-use Rattle.actor_rules.proofs.Matching.{Match, match_weaken}
-use Rattle.actor_rules.proofs.Objects.{Lists}
+use Rattle.actor_rules.specs.Matching.{Match}
+use Rattle.actor_rules.proofs.Matching.{match_weaken}
+use Rattle.actor_rules.specs.Objects.{Lists}
 
 module _ (d : Lines) (l l' : Lists) (grows : (qp : ℕ) → Grows (l.queues (Send qp)) (l'.queues (Send qp))) where
   pub completion_same : (c : Cqe) (u : Unpolled) → IsCompletion l c u → IsCompletion l' c u

@@ -1,11 +1,7 @@
--- Two lists whose items belong together, one by one.
+-- What two lists have in common whose items belong together.
 use Rattle.std.proofs.Common.{◌≡◌, ℕ, zero, suc, ◌++◌, refl, ap, subst, List, [], ◌∷◌, length, take, drop, slice_get, unwrap_or, is_some, Some}
 use Rattle.std.proofs.lemmas.Bool.{false≢true}
-
-abbrev pub Match : {X Y : Type 0} → (X → Y → Type 0) → List X → List Y → Type 0
-Match fits [] [] = Unit {0}
-Match fits (x ∷ xs) (y ∷ ys) = fits x y × Match fits xs ys
-Match fits _ _ = ⊥
+use Rattle.actor_rules.specs.Matching.{Match}
 
 module _ {X Y : Type 0} where
   pub match_length : (fits : X → Y → Type 0) (xs : List X) (ys : List Y) → Match fits xs ys → length xs ≡ length ys

@@ -1,5 +1,5 @@
 -- The phases of a run follow one another: an actor that stands by moves nothing, so all operations keep the rules of the turns.
-use Rattle.std.proofs.Common.{◌≡◌, ℕ, zero, suc, sym, subst, List, [], ◌∷◌, ◌++◌, append_assoc, append-nil}
+use Rattle.std.proofs.Common.{◌≡◌, ℕ, zero, suc, subst, List, [], ◌∷◌, ◌++◌, append_assoc, append-nil}
 use Rattle.std.specs.List.{fold}
 use Rattle.bus_core.specs.Follow.{Follows}
 use Rattle.bus_core.specs.Mark.{Marked}
@@ -10,7 +10,7 @@ use Rattle.object_places.specs.Objects.{Mark}
 use Rattle.actor_rules.specs.Actors.{Actors, fresh_actors, after}
 use Rattle.actor_rules.specs.Roles.{MayAny, May, next, part, MayAs, next_as, Bystander, turn_role, alone_role}
 use Rattle.actor_rules.specs.Run.{Phases, IsRun, KeepRoles, whole, turns_alone, own}
-use Rattle.actor_rules.proofs.Woven.{all_keep, own_keep}
+use Rattle.actor_rules.proofs.Keeping.{all_keep, own_keep}
 
 -- whoever stands by made nothing, which keeps any rule
 nobody_moves : {S : Type 0} (d : Lines) (may : S → Marked Mark → Type 0) (next : S → Marked Mark → S) (s : S) (ops : List (Marked Mark)) → Follows (MayAs d Bystander) (next_as d Bystander) tt ops → Follows may next s ops

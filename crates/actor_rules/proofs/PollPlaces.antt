@@ -14,6 +14,9 @@ use Rattle.verbs_laws.proofs.Families.{among}
 use Rattle.device_engine.specs.State.{send_cq}
 use Rattle.actor_rules.specs.Thread.{completes_into, completing}
 use Rattle.actor_rules.specs.Polling.{place_in}
+use Rattle.actor_rules.specs.Completions.{HasPlace}
+use Rattle.object_places.specs.Places.{send_of}
+use Rattle.provider_poll.specs.Rule.{QueuePlace}
 
 module _ {X : Type 0} (p : X → Bool) where
   -- an item that passes has a place before which none passes
@@ -83,12 +86,6 @@ module _ (cq : ℕ) where
       by true e h = record { place = suc h.place; there = ap (λ b. slice_get (map (λ (p : ℕ × QpLine). FIRST_QP + p.0) (cond b ((k, x) ∷ filter (completes_into cq) (enumerate_from (k + 1) lines)) (filter (completes_into cq) (enumerate_from (k + 1) lines)))) (suc h.place)) e ∙ h.there }
       by false e h = record { place = h.place; there = ap (λ b. slice_get (map (λ (p : ℕ × QpLine). FIRST_QP + p.0) (cond b ((k, x) ∷ filter (completes_into cq) (enumerate_from (k + 1) lines)) (filter (completes_into cq) (enumerate_from (k + 1) lines)))) h.place) e ∙ h.there }
 
--- the place of a queue pair that completes into the queue
-pub record HasPlace (d : Lines) (cq qp : ℕ) : Type 0 where
-  pub is : position (λ n. n == qp) (completing d cq) ≡ Some (place_in d cq qp)
-  pub there : slice_get (completing d cq) (place_in d cq qp) ≡ Some qp
-  pub inside : place_in d cq qp < length (completing d cq)
-
 pub place_of_position : (d : Lines) (cq qp : ℕ) → position (λ n. n == qp) (completing d cq) ≡ Some (place_in d cq qp) → HasPlace d cq qp
 place_of_position d cq qp is =
     let there = at_position (completing d cq) qp (place_in d cq qp) is in
@@ -126,3 +123,7 @@ place_by_living d cq qp lives home =
     let line = pair_line d qp (qp - FIRST_QP) none number there in
     let l = has_place cq 0 d.qps qp (qp - FIRST_QP) none (omega (arith, inside.0)) there (sym line.1 ∙ home) in
     place_of_position d cq qp (position_there (λ n. n == qp) (completing d cq) l.place qp l.there (eq-eqb qp qp refl))
+
+-- their places, with where each queue lies
+abbrev pub places_of : Lines → List ℕ → List QueuePlace
+places_of d numbers = map (λ (qp : ℕ). record { number = qp; place = send_of d qp }) numbers

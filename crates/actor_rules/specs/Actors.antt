@@ -19,7 +19,7 @@ use Rattle.device_engine.specs.State.{AdapterRule, fresh_adapter}
 use Rattle.device_engine.specs.Event.{AdapterEvent, Fetched, Published}
 use Rattle.device_engine.specs.Rule.{adapter_mark, MayAdapt, after_adapt, adapter_says, adapter_sees}
 use Rattle.actor_rules.specs.Thread.{Thread, fresh_thread}
-use Rattle.actor_rules.specs.Calls.{MayThread, after_thread, thread_says, thread_sees}
+use Rattle.actor_rules.specs.Calls.{after_thread, thread_says, thread_sees}
 use Rattle.actor_rules.specs.Family.{put_number}
 
 pub record Actors : Type 0 where

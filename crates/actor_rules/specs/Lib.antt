@@ -9,3 +9,11 @@ pub mod Roles
 pub mod Dues
 pub mod Ready
 pub mod Run
+pub mod Matching
+pub mod View
+pub mod Objects
+pub mod Queues
+pub mod Completions
+pub mod Adapter
+pub mod Threads
+pub mod Holding

@@ -1,6 +1,3 @@
-//! The rules of all actors over their own operations, and the law of what they make together: whatever the order in
-//! which the adapter and the threads take turns, word by word, what their marked operations say is a legal history of
-//! verbs queues, in which each thread's calls are answered once and in order.
+//! The rules of all actors over their own operations, and what holds between the operations of a run in which each
+//! keeps its rule (`specs/`), with the lemmas that the laws of the actors share (`proofs/`).
 #![tactic(auto)]
-
-pub mod laws;

@@ -29,12 +29,12 @@ use Rattle.actor_rules.specs.Roles.{May, MayAny, part}
 use Rattle.actor_rules.specs.Calls.{MayCall, call_says}
 use Rattle.actor_rules.specs.Posting.{MayPost, post_now, post_says}
 use Rattle.actor_rules.specs.Thread.{Thread, queue_place}
-use Rattle.actor_rules.proofs.Adapter.{AdapterStandsAt, Owes}
-use Rattle.actor_rules.proofs.AdapterPublishes as publishes
-use Rattle.actor_rules.proofs.Holding.{Holds, IsMapped}
-use Rattle.actor_rules.proofs.PostCalls.{IsPostCall, now_of, post_call, receive_call}
-use Rattle.actor_rules.proofs.PostNow.{object_of, QueueTied, queue_tied, retirer_at, reader_at, place_fine, object_lives, touches_queue}
-use Rattle.actor_rules.proofs.Queues.{QueueLives}
+use Rattle.actor_rules.specs.Adapter.{AdapterStandsAt, Owes}
+use Rattle.adapter_law.proofs.Publishes as publishes
+use Rattle.actor_rules.specs.Holding.{Holds, IsMapped}
+use Rattle.post_law.proofs.Calls.{IsPostCall, now_of, post_call, receive_call}
+use Rattle.post_law.proofs.Now.{object_of, QueueTied, queue_tied, retirer_at, reader_at, place_fine, object_lives, touches_queue}
+use Rattle.actor_rules.specs.Queues.{QueueLives}
 use Rattle.marked_stores.specs.News.{IsNews}
 use Rattle.marked_stores.specs.Stores.{SaysEntry}
 use Rattle.marked_stores.proofs.Places.{AreWords, IsNewsIn, news_in, ended_no_news}

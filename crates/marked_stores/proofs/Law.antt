@@ -19,15 +19,14 @@ use Rattle.actor_rules.specs.Roles.{MayAny}
 use Rattle.actor_rules.specs.Dues.{dues_at}
 use Rattle.actor_rules.specs.Ready.{AreReady, first_dues}
 use Rattle.actor_rules.specs.Run.{Phases, IsRun, whole}
-use Rattle.actor_rules.proofs.Holding.{Holds, Goes, IsMapped}
-use Rattle.actor_rules.proofs.Law.{step}
-use Rattle.actor_rules.proofs.StartHolds.{CanAct, start_holds}
+use Rattle.actor_rules.specs.Holding.{Holds, Goes, IsMapped, AllGo}
+use Rattle.run_law.proofs.StartHolds.{CanAct, start_holds}
 use Rattle.actor_rules.proofs.Phases.{run_keeps}
 use Rattle.marked_stores.specs.Stores.{SaysEntry, SayEntries}
 use Rattle.marked_stores.proofs.Actors.{told}
 use Rattle.marked_stores.proofs.Places.{AreWords}
 
-module _ (d : Lines) (programs : List (List Call)) (bounds : Bounds) (words : AreWords d) where
+module _ (d : Lines) (programs : List (List Call)) (bounds : Bounds) (all : AllGo d programs bounds) (words : AreWords d) where
   -- whatever an operation says, what holds goes on
   goes_on : (m : Memory) (w : Actors) (r : Running) (seen : ℕ) (said : Option Entry) → Goes d programs bounds m w r seen said → (s : Running) × Holds d programs bounds m w s
   goes_on m w r seen None g = (r, g)
@@ -36,7 +35,7 @@ module _ (d : Lines) (programs : List (List Call)) (bounds : Bounds) (words : Ar
   all_told : (trace : List (Marked Mark)) (m : Memory) (w : Actors) (r : Running) → Holds d programs bounds m w r → IsConsistent m (entries trace) → Follows (MayAny d) (after d) w trace → Follows (SaysEntry d) (after d) w trace
   all_told [] m w r holds consistent keeps = tt
   all_told (x ∷ trace) m w r holds consistent keeps =
-      let next = goes_on (after_entry m x.entry) (after d w x) r (sees_of d w x.entry.actor x) (says d w x) (step d programs bounds words.map m w r x holds consistent.0 keeps.0) in
+      let next = goes_on (after_entry m x.entry) (after d w x) r (sees_of d w x.entry.actor x) (says d w x) (all m w r x holds consistent.0 keeps.0) in
       (told d programs bounds words m w r x holds keeps.0, all_told trace (after_entry m x.entry) (after d w x) next.0 next.1 consistent.1 keeps.1)
 
 -- the item after those before it
@@ -45,12 +44,12 @@ follows_at allowed next s [] x later h = h.0
 follows_at allowed next s (e ∷ before) x later h = follows_at allowed next (next s e) before x later h.1
 
 -- what a run writes of news it says
-pub all_are_told : ArePlaced → AreApart → AreAtStart → AreUsed → AreOwn → AreOfObjects → (d : Lines) (programs : List (List Call)) (bounds : Bounds) (phases : Phases) → AreReady d programs bounds → IsRun d programs phases → SayEntries d programs (whole phases)
-all_are_told placed apart starts used own of_objects d programs bounds phases ready run before x later is =
+pub all_are_told : ((d : Lines) (programs : List (List Call)) (bounds : Bounds) → IsMapped d → AllGo d programs bounds) → ArePlaced → AreApart → AreAtStart → AreUsed → AreOwn → AreOfObjects → (d : Lines) (programs : List (List Call)) (bounds : Bounds) (phases : Phases) → AreReady d programs bounds → IsRun d programs phases → SayEntries d programs (whole phases)
+all_are_told go placed apart starts used own of_objects d programs bounds phases ready run before x later is =
     let trace : List (Marked Mark) = whole phases in
     let map_ok : IsMapped d = record { declared = ready.declared; placed = placed; apart = apart } in
     let words : AreWords d = record { map = map_ok; used = used; own = own; of_objects = of_objects } in
     let begins : CanAct d programs bounds = record { map = map_ok; starts = starts; ready = ready } in
     let first : Running = record { verbs = start d; owed = dues_at (first_dues programs) } in
-    let all = all_told d programs bounds words trace (start_words d 1) (fresh_actors d programs) first (start_holds d programs bounds begins) run.consistent (run_keeps d programs phases run) in
+    let all = all_told d programs bounds (go d programs bounds map_ok) words trace (start_words d 1) (fresh_actors d programs) first (start_holds d programs bounds begins) run.consistent (run_keeps d programs phases run) in
     follows_at (SaysEntry d) (after d) (fresh_actors d programs) before x later (subst (Follows (SaysEntry d) (after d) (fresh_actors d programs)) is all)

@@ -12,7 +12,7 @@ use Rattle.object_places.specs.Places.{completions_of, send_of, receive_of}
 use Rattle.object_places.specs.Words.{IsWordOf, AreUsed, AreOwn, AreOfObjects}
 use Rattle.object_places.proofs.Lines.{is_cq}
 use Rattle.actor_rules.proofs.Frame.{same_object}
-use Rattle.actor_rules.proofs.Holding.{IsMapped}
+use Rattle.actor_rules.specs.Holding.{IsMapped}
 use Rattle.marked_stores.specs.News.{News, SendRecord, SendTail, ReceiveRecord, ReceiveTail, OwnerWord, SecondOwnerWord, ConsumerIndex, ArmWord, ArmRegister, SequenceNumber, object_of, word_of, IsThere, IsNews}
 
 -- the owner word of an entry

@@ -8,6 +8,7 @@ ghost use Rattle.actor_rules.specs.Run.{Phases, IsRun, whole};
 ghost use Rattle.marked_stores.specs.Stores.{SayEntries};
 
 use object_places::laws as places;
+use run_law::laws::operations_go;
 
 /// In every run each operation that writes a word of news says an entry of the history: a record or a tail of a send
 /// or receive queue, and of a completion queue the owner words of both areas, the consumer index and the words of arms.
@@ -15,6 +16,7 @@ pub fn stores_are_told()
     ensures { (d : Lines) (programs : List (List Call)) (bounds : Bounds) (phases : Phases) →
         AreReady d programs bounds → IsRun d programs phases → SayEntries d programs (whole phases) }
 {
+    operations_go();
     places::places();
     places::apart();
     places::starts();

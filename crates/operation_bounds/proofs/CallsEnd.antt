@@ -23,7 +23,7 @@ use Rattle.operation_bounds.proofs.PollSteps.{begun_goes}
 use Rattle.provider_post.proofs.Left.{post_few}
 use Rattle.operation_bounds.proofs.PostSteps.{posting_now}
 use Rattle.operation_bounds.proofs.Steps.{Keeps, step, stands_after, shrinks_all}
-use Rattle.actor_rules.proofs.Holding.{IsMapped}
+use Rattle.actor_rules.specs.Holding.{IsMapped}
 use Rattle.operation_bounds.proofs.Stretches.{follows_first, follows_rest}
 use Rattle.operation_bounds.proofs.Threads.{Stands, Went, Over, On, Again, Ends, IsAtCall, left_of}
 

@@ -25,7 +25,7 @@ use Rattle.operation_bounds.specs.Stretch.{thread_by}
 use Rattle.provider_poll.proofs.LeftLoads.{IsWaiting, poll_few}
 use Rattle.operation_bounds.proofs.PollSteps.{begun_goes}
 use Rattle.operation_bounds.proofs.Steps.{Keeps, step, stands_after, shrinks_all}
-use Rattle.actor_rules.proofs.Holding.{IsMapped}
+use Rattle.actor_rules.specs.Holding.{IsMapped}
 use Rattle.operation_bounds.proofs.Stretches.{follows_first, follows_rest}
 use Rattle.operation_bounds.proofs.Threads.{Stands, Went, Over, On, Again, Ends, IsAtCall, IsInPoll, left_of}
 

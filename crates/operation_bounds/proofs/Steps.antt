@@ -13,7 +13,7 @@ use Rattle.object_places.specs.Objects.{Mark, Sends, Receives}
 use Rattle.actor_rules.specs.Calls.{MayCall, MayThread, after_call, after_thread}
 use Rattle.actor_rules.specs.Ready.{AreReady, IsOwnCall}
 use Rattle.actor_rules.specs.Thread.{Thread, fresh_thread, program_of}
-use Rattle.actor_rules.proofs.Holding.{IsMapped}
+use Rattle.actor_rules.specs.Holding.{IsMapped}
 use Rattle.operation_bounds.proofs.Threads.{Stands, Went, Over, On, Again, Ends, IsAtCall, begins}
 use Rattle.operation_bounds.proofs.PostSteps.{post_step}
 use Rattle.operation_bounds.proofs.PollSteps.{poll_step, drain_step}

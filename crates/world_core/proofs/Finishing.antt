@@ -16,7 +16,8 @@ use Rattle.actor_map.specs.Notes.{Told, entries_of}
 use Rattle.actor_map.specs.Start.{start_words}
 use Rattle.actor_rules.specs.Run.{Phases, IsRun, IsHistory, IsWoven, whole, turns_alone, history, told as told_in}
 use Rattle.actor_rules.proofs.Phases.{whole_is}
-use Rattle.actor_rules.proofs.Woven.{own_keep, entries_told}
+use Rattle.actor_rules.proofs.Keeping.{own_keep}
+use Rattle.actor_rules.proofs.Told.{entries_told}
 use Rattle.operation_bounds.specs.Run.{IsBoundedRun}
 use Rattle.marked_stores.specs.Stores.{SayEntries}
 use Rattle.scenario_text.specs.declared.scenario.ScenarioParts.{ScenarioParts}

@@ -1,4 +1,4 @@
-use Rattle.actor_rules.proofs.Holding.{IsMapped}
+use Rattle.actor_rules.specs.Holding.{IsMapped}
 use Rattle.operation_bounds.proofs.CallsEnd as calls
 use Rattle.operation_bounds.proofs.DrainsLook.{drains_look}
 use Rattle.operation_bounds.proofs.DrainsTake.{drains_take}

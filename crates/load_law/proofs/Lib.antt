@@ -1,0 +1,9 @@
+pub mod Tells
+pub mod Looks
+pub mod Shows
+pub mod Loads
+pub mod Named
+pub mod Counters
+pub mod Found
+pub mod Lookups
+pub mod Law

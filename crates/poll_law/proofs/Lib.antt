@@ -1,0 +1,9 @@
+pub mod Frame
+pub mod Dues
+pub mod Speaks
+pub mod Now
+pub mod Finish
+pub mod Stores
+pub mod Acks
+pub mod Steps
+pub mod Goes

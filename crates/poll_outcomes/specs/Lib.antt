@@ -1,0 +1,4 @@
+pub mod Moves
+pub mod Now
+pub mod Outcome
+pub mod Turn

@@ -1,0 +1,4 @@
+pub mod EndGoes
+pub mod StartHolds
+pub mod Woven
+pub mod Law
