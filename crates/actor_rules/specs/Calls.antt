@@ -22,7 +22,7 @@ pub record MayEnd (t : Thread) (number : ℕ) (x : Marked Mark) : Type 0 where
   pub sets : IsSetBits ENDED_WORD (2 ^ number) x.entry
 
 abbrev pub ended : Thread → Thread
-ended t = record { calls = t.calls; posting = t.posting; given = t.given; posters = t.posters; polls = t.polls; ended = true }
+ended t = record t { ended = true }
 
 abbrev pub MayCall : Lines → Thread → ℕ → List Call → Marked Mark → Type 0
 MayCall d t number [] x = MayEnd t number x

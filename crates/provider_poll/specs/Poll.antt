@@ -39,7 +39,7 @@ fresh_side place start queues = record {
 
 -- a poll before its first operation
 abbrev pub begun : PollView → ℕ → PollView
-begun v max = record { host = v.host; queues = v.queues; state = Polling max (record { items = [] }); noted = v.noted }
+begun v max = record v { state = Polling max (record { items = [] }) }
 
 abbrev pub IsBusy : PollState → Type 0
 IsBusy Idle = ⊥

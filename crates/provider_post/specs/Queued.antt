@@ -45,12 +45,7 @@ next_of v = next_in v.poster.task v.call
 
 -- the same side with this task of its poster
 abbrev pub with_task : PostView → Option PosterTask → PostView
-with_task v task = record {
-  poster = record { place = v.poster.place; side = v.poster.side; rung = v.poster.rung; task = task };
-  queue = v.queue;
-  call = v.call;
-  noted = v.noted;
-}
+with_task v task = record v { poster = record v.poster { task = task } }
 
 -- words that were written are those of the task
 abbrev pub WritesTask : Option PosterTask → Option WqEvent → Type 0
@@ -93,4 +88,4 @@ ring_task None = Some Doorbell
 ring_task (Some task) = Some task
 
 abbrev pub IsRung : PosterView → PosterView → Type 0
-IsRung old new = new ≡ record { place = old.place; side = old.side; rung = old.rung; task = ring_task old.task }
+IsRung old new = new ≡ record old { task = ring_task old.task }

@@ -33,7 +33,7 @@ fresh_view place queue start = record { poster = poster.fresh place start; queue
 
 -- a side with this call under way
 abbrev pub with_call : PostView → Option Call → PostView
-with_call v call = record { poster = v.poster; queue = v.queue; call = call; noted = v.noted }
+with_call v call = record v { call = call }
 
 -- how many turns the call that is under way takes at most from here on
 abbrev pub turns_left : PostView → ℕ
@@ -52,7 +52,7 @@ MayDrop (Some c) = (c.recorded ≡ false) × (c.refused ≡ None)
 
 -- an idle side that has posted only what was rung
 abbrev pub forgotten : PostView → PostView
-forgotten v = record { poster = poster.forgotten v.poster; queue = v.queue; call = None; noted = v.noted }
+forgotten v = record v { poster = poster.forgotten v.poster; call = None }
 
 -- the call of a side that is not idle
 abbrev pub call_of : PostView → Call
