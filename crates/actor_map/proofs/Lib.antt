@@ -6,3 +6,4 @@ mod Setting
 mod Starts
 mod Pieces
 mod Named
+pub mod Numbers

@@ -6,6 +6,7 @@ pub mod Apart
 pub mod Faults
 pub mod Start
 pub mod Setting
+pub mod Numbers
 pub mod Notes
 pub mod Enough
 pub mod Weight

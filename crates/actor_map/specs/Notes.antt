@@ -2,8 +2,6 @@
 use Rattle.std.specs.Prelude.{ℕ, ◌≡◌, ◌+◌, ◌-◌, ◌*◌, ◌<◌, ◌≤◌, ◌==◌, IsTrue, MatchBool, List, length, map}
 use Rattle.bus_core.specs.Follow.{Follows}
 use Rattle.bus_core.specs.declared.turn.Note.{Note}
-use Rattle.verbs_types.specs.declared.completion.Queue.{Queue}
-use Rattle.verbs_types.specs.declared.completion.Queue.TheVariants.{Send, Recv, Shared}
 use Rattle.verbs_types.specs.declared.entry.Entry.{Entry}
 use Rattle.verbs_types.specs.declared.entry.What.{What}
 use Rattle.verbs_types.specs.declared.entry.What.TheVariants.{Post, PostFull, Poll, Retire, Ack, Fetch, Publish}
@@ -11,28 +9,11 @@ use Rattle.verbs_rules.specs.Rules.{objects_live}
 use Rattle.verbs_rules.specs.State.{Verbs}
 use Rattle.verbs_rules.specs.Step.{after_entry}
 use Rattle.verbs_rules.specs.OfOne.{WorkQueue, CompletionQueue, queue_in, completions_in}
-use Rattle.actor_map.specs.declared.note.TheConstants.{POST, POST_FULL, POLL, RETIRE, ACK, FETCH, PUBLISH}
+use Rattle.actor_map.specs.Numbers.{note_or_none, numbers_of}
 
--- the number of a work queue in a note, which tells the queue
-abbrev pub queue_number : Queue → ℕ
-queue_number (Send qp) = 4 * qp
-queue_number (Recv qp) = 4 * qp + 1
-queue_number (Shared srq) = 4 * srq + 2
-
--- the note of an entry that is not built
-abbrev pub no_note : Note
-no_note = record { kind = 0; object = 0; a = 0; b = 0; c = 0; d = 0 }
-
--- The note of an entry whose maker saw this count of another actor. A retirement and an acknowledgement have none.
+-- The note of an entry whose maker saw this count of another actor.
 abbrev pub note_of : What → ℕ → Note
-note_of (Post queue items) seen = record { kind = POST; object = queue_number queue; a = length items; b = seen; c = 0; d = 0 }
-note_of (PostFull queue pending head tail) seen = record { kind = POST_FULL; object = queue_number queue; a = pending; b = head; c = seen; d = 0 }
-note_of (Poll cq most completions) seen = record { kind = POLL; object = cq; a = most; b = length completions; c = seen; d = 0 }
-note_of (Retire queue count) seen = record { kind = RETIRE; object = queue_number queue; a = count; b = 0; c = 0; d = 0 }
-note_of (Ack cq index) seen = record { kind = ACK; object = cq; a = index; b = 0; c = 0; d = 0 }
-note_of (Fetch queue number) seen = record { kind = FETCH; object = queue_number queue; a = number; b = seen; c = 0; d = 0 }
-note_of (Publish cq completion) seen = record { kind = PUBLISH; object = cq; a = seen; b = 0; c = 0; d = 0 }
-note_of _ seen = no_note
+note_of what seen = note_or_none (numbers_of what seen)
 
 -- Retired requests that were seen leave room for the list: what was seen may be old, since the count only rises.
 pub record LeavesRoom (u : WorkQueue) (items seen : ℕ) : Type 0 where

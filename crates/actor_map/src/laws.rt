@@ -1,6 +1,7 @@
 //! Laws of the map that hold with no code.
 ghost use Rattle.actor_map.specs.Apart.{AreApart, AreInside, IsWhole};
 ghost use Rattle.actor_map.specs.Enough.{AreEnough};
+ghost use Rattle.actor_map.specs.Numbers.{AreToldBack};
 ghost use Rattle.actor_map.specs.Started.{AreNamed, HaveStarts};
 
 /// Each object ends where the next begins or before: no word is in two objects.
@@ -27,6 +28,11 @@ pub fn starts()
 /// register.
 pub fn named()
     ensures { AreNamed }
+{}
+
+/// A note tells the numbers that it was made of.
+pub fn notes_tell_numbers()
+    ensures { AreToldBack }
 {}
 
 /// A note that fits its entry tells enough of what other actors did: a post has room, a full queue was seen as it

@@ -19,7 +19,7 @@ mod weight;
 pub use actor::Actor;
 pub use kind::ObjectKind;
 pub use map::{AddressMap, MapFault};
-pub use note::{ACK, FETCH, POLL, POST, POST_FULL, PUBLISH, RETIRE};
+pub use note::EntryNumbers;
 pub use sizes::{FIRST_OBJECT, words};
 pub use start::set_starts;
 pub use weight::notes;

@@ -3,7 +3,8 @@ use Rattle.std.specs.Prelude.{ℕ, Option, Some, None}
 use Rattle.bus_core.specs.declared.turn.Note.{Note}
 use Rattle.verbs_types.specs.declared.declaration.Lines.{Lines}
 use Rattle.cq_pair.specs.Queue.{QueueEvent, Published}
-use Rattle.actor_map.specs.declared.note.TheConstants.{PUBLISH}
+use Rattle.actor_map.specs.Numbers.{note_with}
+use Rattle.actor_map.specs.declared.note.EntryNumbers.TheVariants as numbers
 use Rattle.device_engine.specs.declared.outcome.NextWork.{NextWork}
 use Rattle.device_engine.specs.declared.outcome.NextWork.TheVariants.{Same, Record, Read, Publish, Next, First}
 use Rattle.device_engine.specs.declared.outcome.Outcome.{Outcome}
@@ -18,7 +19,7 @@ goes d Next s = next_visit d s
 goes d First s = first_visit d s
 
 abbrev pub publish_note : ℕ → ℕ → Note
-publish_note cq seen = record { kind = PUBLISH; object = cq; a = seen; b = 0; c = 0; d = 0 }
+publish_note cq seen = note_with (numbers.Publish cq seen)
 
 -- after an operation of a publication, which saw this acknowledged index
 abbrev pub told_published : ℕ → ℕ → Option QueueEvent → Outcome

@@ -11,9 +11,10 @@ ghost use Rattle.device_engine.specs.NextWork as told;
 
 use crate::entry::{nop_cqe, wants_completion};
 use crate::outcome::{NextWork, Outcome};
-use actor_map::FETCH;
+use actor_map::EntryNumbers;
 use bus_core::{BusPort, Note, Step};
 use counted_ring::{WqDevice, WqPlace, WqSeen};
+use verbs_types::Queue;
 use work_entries::SendWords;
 
 /// A queue pair as the adapter keeps it.
@@ -167,12 +168,10 @@ fn fetch_note(qp: u32, number: u64) -> Note
     requires { qp < 2 ^ 24 }
     ensures { result ≡ told.fetch_note qp number }
 {
-    Note {
-        kind: FETCH,
-        object: 4 * qp,
-        a: number,
-        b: number,
-        c: 0,
-        d: 0,
-    }
+    let numbers = EntryNumbers::Fetch {
+        queue: Queue::Send(qp),
+        number,
+        seen: number,
+    };
+    numbers.note()
 }

@@ -8,7 +8,7 @@ ghost use Rattle.device_engine.specs.Goes.{publish_note as note_of};
 ghost use Rattle.device_engine.specs.Publishing.{Publishes};
 
 use crate::outcome::{NextWork, Outcome};
-use actor_map::PUBLISH;
+use actor_map::EntryNumbers;
 use bus_core::{BusPort, Note, Step};
 use cq_pair::{CqDevice, CqSeen};
 
@@ -38,12 +38,5 @@ pub(crate) fn publish<P: BusPort>(queue: &mut CqDevice, cq: u32, port: &mut P) -
 fn publish_note(cq: u32, seen: u64) -> Note
     ensures { result ≡ note_of cq seen }
 {
-    Note {
-        kind: PUBLISH,
-        object: cq,
-        a: seen,
-        b: 0,
-        c: 0,
-        d: 0,
-    }
+    EntryNumbers::Publish { cq, seen }.note()
 }

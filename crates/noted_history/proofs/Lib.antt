@@ -1,6 +1,6 @@
 mod Passing
 mod Posts
-mod ByKind
+mod ByNumbers
 mod Moves
 mod Threads
 mod Standing

@@ -2,10 +2,10 @@
 //! room for.
 #![tactic(auto)]
 
+mod completions;
 mod entries;
 mod log;
 mod marks;
-mod numbers;
 mod posting;
 mod teller;
 

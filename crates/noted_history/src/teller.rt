@@ -1,15 +1,17 @@
 //! One entry after another, each told by its note.
-ghost use Rattle.std.specs.Prelude.{◌≡◌, replicate, IfOk};
+ghost use Rattle.std.specs.Prelude.{◌≡◌, ℕ, replicate, IfOk, Some};
 ghost use Rattle.actor_map.specs.Notes.{Told};
+ghost use Rattle.actor_map.specs.Numbers.{numbers_in};
+ghost use Rattle.actor_map.specs.declared.note.EntryNumbers.TheVariants.{Post, PostFull};
 ghost use Rattle.noted_history.specs.Telling.{CanTell, Tells, Says, Takes};
 
-use crate::numbers::{first_unpolled, owed_completion, queue_of};
+use crate::completions::{first_unpolled, owed_completion};
 use crate::posting::Posting;
-use actor_map::{ACK, FETCH, POLL, POST, POST_FULL, RETIRE};
+use actor_map::EntryNumbers;
 use bus_core::Note;
 use std::alloc::Global;
 use verbs_model::Abstract;
-use verbs_types::{Call, CheckFault, Entry, NoMemory, Sequence, What};
+use verbs_types::{Call, CheckFault, Entry, NoMemory, Queue, Sequence, What};
 
 /// How far a history is told, one entry after another. `history_of` is its fold over the notes of a run; who has notes
 /// in another form, of several actors say, takes its steps.
@@ -67,33 +69,41 @@ impl Teller {
         requires { CanTell self.old programs.now (record { actor = actor; note = note }) }
         ensures { (t : Told) → Tells self.old programs.now (record { actor = actor; note = note }) t → IfOk result (Says self.old self.new programs.now t.entry) }
     {
-        match note.kind {
-            POST => self.posted(alloc, programs, actor, note),
-            POST_FULL => Ok(self.refused(programs, actor, note)),
-            POLL => {
-                let completions = first_unpolled(alloc, &self.state, note.object, note.b as usize)?;
+        match EntryNumbers::of(&note) {
+            Some(EntryNumbers::Post { queue, count, .. }) => {
+                self.posted(alloc, programs, actor, note, queue, count)
+            }
+            Some(
+                EntryNumbers::PostFull {
+                    queue,
+                    pending,
+                    head,
+                    tail,
+                },
+            ) => Ok(self.refused(programs, actor, note, queue, pending, head, tail)),
+            Some(
+                EntryNumbers::Poll {
+                    cq,
+                    most,
+                    taken,
+                    ..
+                },
+            ) => {
+                let completions = first_unpolled(alloc, &self.state, cq, taken as usize)?;
                 Ok(What::Poll {
-                    cq: note.object,
-                    max: note.a,
+                    cq,
+                    max: most,
                     completions: Sequence::from_vec(completions),
                 })
             }
-            RETIRE => Ok(What::Retire {
-                queue: queue_of(note.object),
-                count: note.a,
-            }),
-            ACK => Ok(What::Ack {
-                cq: note.object,
-                index: note.a,
-            }),
-            FETCH => Ok(What::Fetch {
-                queue: queue_of(note.object),
-                number: note.a,
-            }),
-            _ => Ok(What::Publish {
-                cq: note.object,
+            Some(EntryNumbers::Retire { queue, count }) => Ok(What::Retire { queue, count }),
+            Some(EntryNumbers::Ack { cq, index }) => Ok(What::Ack { cq, index }),
+            Some(EntryNumbers::Fetch { queue, number, .. }) => Ok(What::Fetch { queue, number }),
+            Some(EntryNumbers::Publish { cq, .. }) => Ok(What::Publish {
+                cq,
                 completion: owed_completion(&self.state),
             }),
+            None => unreachable!(),
         }
     }
 
@@ -104,33 +114,44 @@ impl Teller {
         programs: &[Sequence<Call>],
         actor: u8,
         note: Note,
+        queue: Queue,
+        count: u64,
     ) -> Result<What, NoMemory>
         requires told { CanTell self.old programs.now (record { actor = actor; note = note }) }
-        requires kind { note.kind ≡ POST }
+        requires numbers { (seen : ℕ) × (numbers_in note ≡ Some (Post queue count seen)) }
         ensures { (t : Told) → Tells self.old programs.now (record { actor = actor; note = note }) t → IfOk result (Says self.old self.new programs.now t.entry) }
     {
         let thread = actor as usize - 1;
         let calls = programs[thread].as_slice();
-        let items = self.postings[thread].post(alloc, calls, note.a as usize)?;
+        let items = self.postings[thread].post(alloc, calls, count as usize)?;
         Ok(What::Post {
-            queue: queue_of(note.object),
+            queue,
             items: Sequence::from_vec(items),
         })
     }
 
     /// What a post says that found its queue full.
-    fn refused(&mut self, programs: &[Sequence<Call>], actor: u8, note: Note) -> What
+    fn refused(
+        &mut self,
+        programs: &[Sequence<Call>],
+        actor: u8,
+        note: Note,
+        queue: Queue,
+        pending: u64,
+        head: u64,
+        tail: u64,
+    ) -> What
         requires told { CanTell self.old programs.now (record { actor = actor; note = note }) }
-        requires kind { note.kind ≡ POST_FULL }
+        requires numbers { numbers_in note ≡ Some (PostFull queue pending head tail) }
         ensures { (t : Told) → Tells self.old programs.now (record { actor = actor; note = note }) t → Says self.old self.new programs.now t.entry result }
     {
         let thread = actor as usize - 1;
-        self.postings[thread].refuse(programs[thread].as_slice(), note.a);
+        self.postings[thread].refuse(programs[thread].as_slice(), pending);
         What::PostFull {
-            queue: queue_of(note.object),
-            pending: note.a,
-            head: note.b,
-            tail: note.c,
+            queue,
+            pending,
+            head,
+            tail,
         }
     }
 }

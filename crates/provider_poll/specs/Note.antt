@@ -4,11 +4,12 @@ use Rattle.bus_core.specs.declared.turn.Note.{Note}
 use Rattle.verbs_types.specs.declared.completion.Queue.TheVariants.{Send}
 use Rattle.verbs_types.specs.declared.entry.What.TheVariants.{Retire, Ack}
 use Rattle.actor_map.specs.Notes.{note_of}
-use Rattle.actor_map.specs.declared.note.TheConstants.{POLL}
+use Rattle.actor_map.specs.Numbers.{note_with}
+use Rattle.actor_map.specs.declared.note.EntryNumbers.TheVariants.{Poll}
 
 -- of a poll that asked for `most` completions and took `taken`, and saw the queue as published up to the index `seen`
 abbrev pub poll_note : (cq most taken seen : ℕ) → Note
-poll_note cq most taken seen = record { kind = POLL; object = cq; a = most; b = taken; c = seen; d = 0 }
+poll_note cq most taken seen = note_with (Poll cq most taken seen)
 
 -- of the store of this tail in the send queue of the queue pair
 abbrev pub retire_note : (qp tail : ℕ) → Note

@@ -8,8 +8,8 @@ use Rattle.bus_core.specs.declared.turn.Step.{Step}
 use Rattle.verbs_types.specs.declared.completion.Queue.{Queue}
 use Rattle.verbs_types.specs.declared.request.Item.{Item}
 use Rattle.actor_map.specs.Notes as entries
-use Rattle.actor_map.specs.Notes.{queue_number}
-use Rattle.actor_map.specs.declared.note.TheConstants.{POST}
+use Rattle.actor_map.specs.Numbers.{note_with}
+use Rattle.actor_map.specs.declared.note.EntryNumbers.TheVariants as numbers
 use Rattle.counted_ring.specs.declared.place.WqPlace.{WqPlace}
 use Rattle.counted_ring.specs.Queue.{WqEvent, Wrote, Full, Rang, Named, Found, Retired, Counted, Took}
 use Rattle.counted_ring.specs.Poster.{Poster}
@@ -42,7 +42,7 @@ noted : (queue : Queue) (items : List Item) (c : Call) (t : PostStep) (seen : �
 noted queue items c told.Nothing seen few = refl
 noted queue items c told.Wrote seen few = refl
 noted queue items c (told.Full head tail) seen few = refl
-noted queue items c told.Rang seen few = ap (λ (n : ℕ). Some (record { kind = POST; object = queue_number queue; a = n; b = seen; c = 0; d = 0 })) (sym (length-take-le c.accepted items few))
+noted queue items c told.Rang seen few = ap (λ (n : ℕ). Some (note_with (numbers.Post queue n seen))) (sym (length-take-le c.accepted items few))
 
 count_kept : (c : Call) (t : PostStep) → (call_after c t).count ≡ c.count
 count_kept c told.Nothing = refl

@@ -5,6 +5,7 @@ use Rattle.bus_core.specs.declared.turn.Step.{Step}
 use Rattle.verbs_types.specs.declared.completion.Queue.{Queue}
 use Rattle.verbs_types.specs.declared.completion.Queue.TheVariants.{Send, Recv, Shared}
 use Rattle.verbs_types.specs.declared.request.Item.{Item}
+use Rattle.actor_map.specs.Numbers.{object_of}
 use Rattle.counted_ring.specs.declared.place.WqPlace.{WqPlace}
 use Rattle.counted_ring.specs.Place.{touches, is_send}
 use Rattle.counted_ring.specs.Queue as queue
@@ -24,15 +25,10 @@ has_register (Send qp) = true
 has_register (Recv qp) = false
 has_register (Shared srq) = false
 
-abbrev pub number_of : Queue → ℕ
-number_of (Send qp) = qp
-number_of (Recv qp) = qp
-number_of (Shared srq) = srq
-
 -- the place is one of such a queue
 pub record IsQueuePlace (place : WqPlace) (queue : Queue) : Type 0 where
   pub register : is_send place ≡ has_register queue
-  pub number_low : number_of queue < 2 ^ 24
+  pub number_low : object_of queue < 2 ^ 24
 
 abbrev pub next_in : Option PosterTask → Option Call → Option ℕ
 next_in None None = None

@@ -1,25 +1,12 @@
-//! What the numbers of a note stand for.
+//! The completions that an entry is about.
 ghost use Rattle.std.specs.Prelude.{◌≡◌, ℕ, ◌∷◌, ◌≤◌, List, length, map, take, IsTrue, IfOk};
-ghost use Rattle.actor_map.specs.Notes.{queue_number};
-ghost use Rattle.verbs_types.specs.declared.completion.Queue.{Queue};
 ghost use Rattle.verbs_types.specs.declared.state.Act.{Act};
 ghost use Rattle.verbs_types.specs.declared.state.Unpolled.{Unpolled};
 ghost use Rattle.verbs_model.specs.Tables.{state_of};
 
 use std::alloc::Global;
 use verbs_model::Abstract;
-use verbs_types::{Act, Completion, NoMemory, Queue};
-
-/// The queue of this number: 4 times its object's, plus 0 for sends, 1 for receives and 2 for shared receives.
-pub(crate) fn queue_of(number: u32) -> Queue
-    ensures { (queue : Queue) → number ≡ queue_number queue → result ≡ queue }
-{
-    match number % 4 {
-        0 => Queue::Send(number / 4),
-        1 => Queue::Recv(number / 4),
-        _ => Queue::Shared(number / 4),
-    }
-}
+use verbs_types::{Act, Completion, NoMemory};
 
 /// The `count` oldest completions of a completion queue that no poll took.
 pub(crate) fn first_unpolled(
