@@ -1,5 +1,5 @@
 -- What stands before an operation of a poll.
-use Rattle.std.specs.Prelude.{◌≡◌, ℕ, ◌+◌, ◌<◌, ◌^◌, List, ◌++◌, map}
+use Rattle.std.specs.Prelude.{◌≡◌, ℕ, ◌<◌, ◌^◌, List, ◌++◌, map}
 use Rattle.std.specs.List.{AllByRecursion}
 use Rattle.bus_core.specs.Trace.{Memory}
 use Rattle.verbs_types.specs.declared.completion.Completion.{Completion}
