@@ -1,12 +1,11 @@
 -- What a thread still owes, by its calls and how far it has come.
 use Rattle.std.specs.Prelude.{ℕ, zero, suc, ◌-◌, ◌++◌, Bool, true, false, List, [], ◌∷◌, map, replicate, take, flat_map, slice_index_or, Option, None, Some, is_some, if◌then◌else◌}
 use Rattle.verbs_types.specs.declared.call.Call.{Call}
-use Rattle.verbs_types.specs.declared.call.Call.TheVariants.{Post, Recv, Poll, Drain}
 use Rattle.verbs_types.specs.declared.completion.Queue.{Queue}
 use Rattle.verbs_types.specs.declared.completion.Queue.TheVariants as queues
 use Rattle.verbs_types.specs.declared.declaration.Lines.{Lines}
 use Rattle.verbs_types.specs.declared.request.Item.{Item}
-use Rattle.verbs_types.specs.declared.request.Item.TheVariants.{Request as TheRequest, Receive as TheReceive}
+use Rattle.verbs_rules.specs.Shape.{Shape, Taking, Posts, Takes, Once, Until, shape_of}
 use Rattle.verbs_rules.specs.Answered.{Due, Posting, Accepting, Polling, Draining, Retiring, Acking, due_by}
 use Rattle.provider_post.specs.declared.call.Call as post
 use Rattle.provider_poll.specs.declared.state.End.{End}
@@ -46,13 +45,19 @@ poll_dues d cq most state = if is_storing state then store_dues d cq state else 
 abbrev pub drain_dues : Lines → ℕ → ℕ → PollState → List Due
 drain_dues d cq count state = if is_storing state then store_dues d cq state ++ replicate (count - 1) (Draining cq) else replicate count (Draining cq)
 
+abbrev pub take_dues : Lines → ℕ → Taking → PollState → List Due
+take_dues d cq (Once most) state = poll_dues d cq most state
+take_dues d cq (Until count) state = drain_dues d cq count state
+
+-- of the call under way
+abbrev pub dues_in : Lines → Option post.Call → (ℕ → PollRule) → Shape → List Due
+dues_in d posting polls (Posts queue items) = post_dues queue items posting
+dues_in d posting polls (Takes cq taking) = take_dues d cq taking (polls cq).state
+
 -- of the first call that is left, and of the others
 abbrev pub dues_of : Lines → Option post.Call → (ℕ → PollRule) → List Call → List Due
 dues_of d posting polls [] = []
-dues_of d posting polls (Post qp requests ∷ rest) = post_dues (queues.Send qp) (map TheRequest requests) posting ++ flat_map due_by rest
-dues_of d posting polls (Recv qp receives ∷ rest) = post_dues (queues.Recv qp) (map TheReceive receives) posting ++ flat_map due_by rest
-dues_of d posting polls (Poll cq most ∷ rest) = poll_dues d cq most (polls cq).state ++ flat_map due_by rest
-dues_of d posting polls (Drain cq count ∷ rest) = drain_dues d cq count (polls cq).state ++ flat_map due_by rest
+dues_of d posting polls (call ∷ rest) = dues_in d posting polls (shape_of call) ++ flat_map due_by rest
 
 abbrev pub call_dues : Lines → Thread → List Call → List Due
 call_dues d t calls = dues_of d t.posting t.polls calls

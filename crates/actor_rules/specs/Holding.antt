@@ -1,5 +1,5 @@
 -- What holds between the operations of a run, and what an operation makes of it.
-use Rattle.std.specs.Prelude.{◌≡◌, ℕ, zero, suc, Bool, true, List, [], ◌∷◌, length, IsTrue, Option, None, Some, option_map}
+use Rattle.std.specs.Prelude.{◌≡◌, ℕ, zero, suc, List, [], ◌∷◌, length, IsTrue, Option, None, Some, option_map}
 use Rattle.bus_core.specs.Mark.{Marked}
 use Rattle.bus_core.specs.Trace.{Memory, Tells, after_entry}
 use Rattle.verbs_types.specs.declared.call.Call.{Call}
@@ -18,14 +18,15 @@ use Rattle.device_engine.specs.State.{AdapterRule}
 use Rattle.verbs_types.specs.declared.completion.Queue.TheVariants.{Send}
 use Rattle.object_places.specs.Objects.{Mark, Lives, Completions, Sends}
 use Rattle.object_places.specs.Apart.{ArePlaced, AreApart}
-use Rattle.actor_rules.specs.Thread.{Thread}
+use Rattle.actor_rules.specs.Thread.{Thread, QueueLives}
 use Rattle.actor_rules.specs.Actors.{Actors, by, after_by, what_of, sees_of}
 use Rattle.actor_rules.specs.Roles.{May, MayAny, part}
 use Rattle.actor_rules.specs.Dues.{dues_at}
 use Rattle.verbs_rules.specs.Within.{Bounds, InBounds}
+use Rattle.verbs_rules.specs.Shape.{Shape, shape_of}
 use Rattle.actor_rules.specs.View.{View, view}
 use Rattle.actor_rules.specs.Objects.{Lists, AllTiedIn}
-use Rattle.actor_rules.specs.Queues.{QueueLives, QueueIn}
+use Rattle.actor_rules.specs.Queues.{QueueIn}
 use Rattle.actor_rules.specs.Completions.{CompletionsStand}
 use Rattle.actor_rules.specs.Adapter.{AdapterStandsAt}
 use Rattle.actor_rules.specs.Threads.{ThreadStands}
@@ -106,11 +107,11 @@ AllGo d programs total = (m : Memory) (w : Actors) (r : Running) (x : Marked Mar
 abbrev pub ActorGoes : Lines → List (List Call) → Bounds → ℕ → (Actors → Type 0) → Type 0
 ActorGoes d programs total actor so = (m : Memory) (w : Actors) (r : Running) (x : Marked Mark) → Holds d programs total m w r → Tells m x.entry → x.entry.actor ≡ actor → so w → May d actor (part actor w) x → GoesBy d programs total m w r actor x
 
--- the first call that is left is such a one
-abbrev pub IsFirst : (Call → Bool) → List Call → Type 0
-IsFirst test [] = ⊥
-IsFirst test (call ∷ rest) = test call ≡ true
+-- the first call that is left is of such a shape
+abbrev pub IsFirst : (Shape → Type 0) → List Call → Type 0
+IsFirst such [] = ⊥
+IsFirst such (call ∷ rest) = such (shape_of call)
 
 -- each one of a thread that is in such a call, or begins one
-abbrev pub CallsGo : Lines → List (List Call) → Bounds → (Call → Bool) → Type 0
-CallsGo d programs total test = (t : ℕ) → ActorGoes d programs total (suc t) (λ w. IsFirst test (w.threads (suc t)).calls)
+abbrev pub CallsGo : Lines → List (List Call) → Bounds → (Shape → Type 0) → Type 0
+CallsGo d programs total such = (t : ℕ) → ActorGoes d programs total (suc t) (λ w. IsFirst such (w.threads (suc t)).calls)

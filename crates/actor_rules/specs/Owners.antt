@@ -2,22 +2,25 @@
 use Rattle.std.specs.Prelude.{ℕ, ◌+◌, ◌==◌, Bool, false, List, [], ◌∷◌, if◌then◌else◌}
 use Rattle.std.specs.List.{list_any}
 use Rattle.verbs_types.specs.declared.call.Call.{Call}
-use Rattle.verbs_types.specs.declared.call.Call.TheVariants.{Post, Recv, Poll, Drain}
 use Rattle.verbs_types.specs.declared.completion.Queue.{Queue}
-use Rattle.verbs_types.specs.declared.completion.Queue.TheVariants as queues
 use Rattle.verbs_rules.specs.Same.{same_queue}
+use Rattle.verbs_rules.specs.Shape.{Shape, Posts, Takes, shape_of}
+
+abbrev pub posts_to : Queue → Shape → Bool
+posts_to queue (Posts q items) = same_queue queue q
+posts_to queue _ = false
+
+abbrev pub takes_of : ℕ → Shape → Bool
+takes_of cq (Takes c taking) = cq == c
+takes_of cq _ = false
 
 -- the call posts on this queue
 abbrev pub posts_on : Queue → Call → Bool
-posts_on queue (Post qp requests) = same_queue queue (queues.Send qp)
-posts_on queue (Recv qp receives) = same_queue queue (queues.Recv qp)
-posts_on queue _ = false
+posts_on queue call = posts_to queue (shape_of call)
 
 -- the call takes completions of this queue
 abbrev pub polls_on : ℕ → Call → Bool
-polls_on cq (Poll c most) = cq == c
-polls_on cq (Drain c count) = cq == c
-polls_on cq _ = false
+polls_on cq call = takes_of cq (shape_of call)
 
 -- the number, from 1, of the first program with such a call, and one more than there are where none has
 abbrev pub first_with : (Call → Bool) → List (List Call) → ℕ

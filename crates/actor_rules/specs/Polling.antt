@@ -10,6 +10,7 @@ use Rattle.verbs_types.specs.declared.completion.Queue.TheVariants.{Send}
 use Rattle.verbs_types.specs.declared.declaration.Lines.{Lines}
 use Rattle.verbs_types.specs.declared.entry.What.{What}
 use Rattle.verbs_types.specs.declared.entry.What.TheVariants.{Poll, Retire, Ack}
+use Rattle.verbs_rules.specs.Shape.{Taking, Once, Until}
 use Rattle.cq_pair.specs.Mark as host
 use Rattle.counted_ring.specs.Mark as counted
 use Rattle.object_places.specs.Objects.{Mark, OnCompletions, OnSends}
@@ -78,6 +79,11 @@ abbrev pub calls_after_drain : List Call → ℕ → ℕ → List Call → Step 
 calls_after_drain calls cq count rest (Done (Polled taken empty)) = if taken == 0 then calls else drain_left cq count rest
 calls_after_drain calls cq count rest _ = calls
 
+-- the calls that are left after an operation of a call that takes completions so
+abbrev pub calls_after : ℕ → Taking → List Call → List Call → Step Completion PollAnswer → List Call
+calls_after cq (Once most) calls rest = calls_after_poll calls rest
+calls_after cq (Until count) calls rest = calls_after_drain calls cq count rest
+
 abbrev pub after_poll : Lines → Thread → ℕ → ℕ → Marked Mark → (Step Completion PollAnswer → List Call) → Thread
 after_poll d t cq most x calls = record t { calls = calls (polled d t cq most x).answer; given = given_after t.given (polled d t cq most x).answer; polls = put_number t.polls cq (after_poll_side (poll_place d cq) (poll_now t cq most) (poll_mark d cq x.mark) x.entry) }
 
@@ -107,8 +113,9 @@ abbrev pub took_some : Option What → Option What
 took_some (Some (Poll cq most [])) = None
 took_some said = said
 
-abbrev pub drain_says : Lines → Thread → ℕ → Marked Mark → Option What
-drain_says d t cq x = took_some (poll_says d t cq 1 x)
+abbrev pub told_by : Taking → Option What → Option What
+told_by (Once most) said = said
+told_by (Until count) said = took_some said
 
 -- up to which index the poll has seen the completion queue as published
 abbrev pub poll_sees : Lines → Thread → ℕ → ℕ → Marked Mark → ℕ

@@ -1,17 +1,14 @@
 -- What ties a work queue of words to one of the abstract state.
-use Rattle.std.specs.Prelude.{◌≡◌, ℕ, ◌++◌, List, length}
+use Rattle.std.specs.Prelude.{◌≡◌, ◌++◌, List, length}
 use Rattle.verbs_types.specs.declared.call.Call.{Call}
 use Rattle.verbs_types.specs.declared.completion.Queue.{Queue}
-use Rattle.verbs_types.specs.declared.completion.Queue.TheVariants as queues
 use Rattle.verbs_types.specs.declared.declaration.Lines.{Lines}
 use Rattle.verbs_types.specs.declared.request.Item.{Item}
 use Rattle.verbs_rules.specs.State.{Verbs}
 use Rattle.verbs_rules.specs.OfOne.{WorkQueue, queue_in}
 use Rattle.counted_ring.specs.Queue as counted
-use Rattle.object_places.specs.Objects.{Lives, Sends, Receives}
-use Rattle.object_places.specs.Places.{qp_line}
 use Rattle.provider_post.specs.Item.{IsWrittenItem}
-use Rattle.actor_rules.specs.Thread.{Thread, queue_place}
+use Rattle.actor_rules.specs.Thread.{Thread, queue_place, segments_of}
 use Rattle.actor_rules.specs.Actors.{Actors}
 use Rattle.actor_rules.specs.Matching.{Match}
 use Rattle.actor_rules.specs.View.{View, view, written_in}
@@ -26,18 +23,6 @@ written programs w queue = (view programs w).written queue
 -- a request of the words is this item
 abbrev pub IsItem : Lines → Queue → counted.Request → Item → Type 0
 IsItem d queue r item = IsWrittenItem (queue_place d queue) queue r.index item r.words r.id
-
--- how many scatter/gather entries a request of the queue may have
-abbrev pub segments_of : Lines → Queue → ℕ
-segments_of d (queues.Send qp) = (qp_line d qp).segments
-segments_of d (queues.Recv qp) = (qp_line d qp).segments
-segments_of d (queues.Shared srq) = 0
-
--- a work queue of a declared queue pair
-abbrev pub QueueLives : Lines → Queue → Type 0
-QueueLives d (queues.Send qp) = Lives d (Sends qp)
-QueueLives d (queues.Recv qp) = Lives d (Receives qp)
-QueueLives d (queues.Shared srq) = ⊥
 
 -- A work queue of words, of which so much is written and not rung and this is told, stands for this one.
 pub record QueueIs (d : Lines) (written_items told_items : List Item) (u : WorkQueue) (q : counted.Queue) (queue : Queue) : Type 0 where

@@ -13,6 +13,7 @@ use Rattle.counted_ring.specs.Poster.{Poster}
 use Rattle.counted_ring.specs.Law.{fresh_poster, fresh_finder}
 use Rattle.cq_pair.specs.Law.{fresh_host}
 use Rattle.object_places.specs.Places.{send_of, receive_of, completions_of, qp_line, cq_line}
+use Rattle.object_places.specs.Objects.{Object, Lives, Sends, Receives}
 use Rattle.provider_post.specs.declared.call.Call as post
 use Rattle.provider_poll.specs.declared.state.PollState.TheVariants.{Idle}
 use Rattle.provider_poll.specs.Rule.{PollPlace, PollRule}
@@ -52,6 +53,24 @@ abbrev pub queue_place : Lines → Queue → WqPlace
 queue_place d (Send qp) = send_of d qp
 queue_place d (Recv qp) = receive_of d qp
 queue_place d (Shared srq) = receive_of d srq
+
+-- which object it is
+abbrev pub queue_object : Queue → Object
+queue_object (Send qp) = Sends qp
+queue_object (Recv qp) = Receives qp
+queue_object (Shared srq) = Receives srq
+
+-- it is one of a declared queue pair
+abbrev pub QueueLives : Lines → Queue → Type 0
+QueueLives d (Send qp) = Lives d (Sends qp)
+QueueLives d (Recv qp) = Lives d (Receives qp)
+QueueLives d (Shared srq) = ⊥
+
+-- how many scatter/gather entries a request of it may have
+abbrev pub segments_of : Lines → Queue → ℕ
+segments_of d (Send qp) = (qp_line d qp).segments
+segments_of d (Recv qp) = (qp_line d qp).segments
+segments_of d (Shared srq) = 0
 
 -- the index of the queue's first entry
 abbrev pub queue_start : Lines → Queue → ℕ

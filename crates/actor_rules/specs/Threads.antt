@@ -1,14 +1,12 @@
 -- What ties a thread to what it owes.
-use Rattle.std.specs.Prelude.{◌≡◌, ◌≢◌, ℕ, ◌<◌, ◌≤◌, true, List, [], ◌∷◌, length, map, Option, None, Some}
+use Rattle.std.specs.Prelude.{◌≡◌, ◌≢◌, ℕ, ◌<◌, ◌≤◌, true, List, [], ◌∷◌, length, Option, None, Some}
 use Rattle.std.specs.List.{AllByRecursion}
 use Rattle.verbs_types.specs.declared.call.Call.{Call}
-use Rattle.verbs_types.specs.declared.call.Call.TheVariants.{Post, Recv, Poll, Drain}
 use Rattle.verbs_types.specs.declared.completion.Completion.{Completion}
 use Rattle.verbs_types.specs.declared.completion.Queue.{Queue}
-use Rattle.verbs_types.specs.declared.completion.Queue.TheVariants as queues
 use Rattle.verbs_types.specs.declared.declaration.Lines.{Lines}
-use Rattle.verbs_types.specs.declared.request.Item.TheVariants.{Request as TheRequest, Receive as TheReceive}
 use Rattle.verbs_rules.specs.Answered.{Due}
+use Rattle.verbs_rules.specs.Shape.{Shape, Posts, Takes, shape_of, most_of}
 use Rattle.counted_ring.specs.Poster.{Poster, Ready}
 use Rattle.provider_post.specs.declared.call.Call as post
 use Rattle.provider_post.specs.Call.{is_written}
@@ -71,12 +69,13 @@ module _ (posting_is : Option post.Call) (given_are : List Completion) (posters_
     pub posters : PostersIdle (λ queue. Unit {0}) posters_are
     pub polls : PollsIdle (λ cq. Unit {0}) polls_are
 
+  abbrev pub StandsIn : Shape → Type 0
+  StandsIn (Posts queue items) = PostsIn queue (length items)
+  StandsIn (Takes cq taking) = PollsIn cq (most_of taking)
+
   abbrev pub StandsWith : List Call → Type 0
   StandsWith [] = RestsIn
-  StandsWith (Post qp requests ∷ rest) = PostsIn (queues.Send qp) (length (map TheRequest requests))
-  StandsWith (Recv qp receives ∷ rest) = PostsIn (queues.Recv qp) (length (map TheReceive receives))
-  StandsWith (Poll cq most ∷ rest) = PollsIn cq most
-  StandsWith (Drain cq count ∷ rest) = PollsIn cq 1
+  StandsWith (call ∷ rest) = StandsIn (shape_of call)
 
 abbrev pub PostsAt : Thread → Queue → ℕ → Type 0
 PostsAt t queue items = PostsIn t.posting t.given t.posters t.polls queue items
@@ -86,6 +85,9 @@ PollsAt t cq most = PollsIn t.posting t.given t.posters t.polls cq most
 
 abbrev pub RestsAt : Thread → Type 0
 RestsAt t = RestsIn t.posting t.given t.posters t.polls
+
+abbrev pub StandsAs : Thread → Shape → Type 0
+StandsAs t shape = StandsIn t.posting t.given t.posters t.polls shape
 
 abbrev pub StandsAt : Thread → List Call → Type 0
 StandsAt t calls = StandsWith t.posting t.given t.posters t.polls calls

@@ -1,13 +1,11 @@
 -- The sides of all objects, and what their owners are about, by object. Owners are looked up here alone.
-use Rattle.std.specs.Prelude.{ℕ, if◌then◌else◌, List, [], ◌∷◌, map, take, Option, None, Some}
+use Rattle.std.specs.Prelude.{ℕ, if◌then◌else◌, List, [], ◌∷◌, take, Option, None, Some}
 use Rattle.verbs_types.specs.declared.call.Call.{Call}
-use Rattle.verbs_types.specs.declared.call.Call.TheVariants.{Post, Recv}
 use Rattle.verbs_types.specs.declared.completion.Completion.{Completion}
 use Rattle.verbs_types.specs.declared.completion.Queue.{Queue}
-use Rattle.verbs_types.specs.declared.completion.Queue.TheVariants as queues
 use Rattle.verbs_types.specs.declared.request.Item.{Item}
-use Rattle.verbs_types.specs.declared.request.Item.TheVariants.{Request as TheRequest, Receive as TheReceive}
 use Rattle.verbs_rules.specs.Same.{same_queue}
+use Rattle.verbs_rules.specs.Shape.{Shape, Posts, shape_of}
 use Rattle.counted_ring.specs.Poster.{Poster}
 use Rattle.counted_ring.specs.Device.{WqReader}
 use Rattle.cq_pair.specs.Device.{QueueDevice}
@@ -24,10 +22,13 @@ abbrev pub accepted : Option post.Call → List Item → List Item
 accepted None items = []
 accepted (Some call) items = if call.recorded then [] else take call.accepted items
 
+abbrev pub written_of : Queue → Option post.Call → Shape → List Item
+written_of queue posting (Posts q items) = if same_queue queue q then accepted posting items else []
+written_of queue posting _ = []
+
 abbrev pub written_in : Queue → Option post.Call → List Call → List Item
-written_in queue posting (Post qp requests ∷ rest) = if same_queue queue (queues.Send qp) then accepted posting (map TheRequest requests) else []
-written_in queue posting (Recv qp receives ∷ rest) = if same_queue queue (queues.Recv qp) then accepted posting (map TheReceive receives) else []
-written_in queue posting _ = []
+written_in queue posting [] = []
+written_in queue posting (call ∷ rest) = written_of queue posting (shape_of call)
 
 -- what the poll under way has given; none is under way where it rests
 abbrev pub given_in : PollState → List Completion → List Completion

@@ -49,7 +49,8 @@ use Rattle.actor_rules.proofs.Growing.{Grows, grows_refl, grows_event}
 use Rattle.actor_rules.specs.Holding.{AsDeclared, Stands, Bare, IsMapped}
 use Rattle.actor_rules.specs.Objects.{Lists, poll_side, poster_side, retirer_side}
 use Rattle.actor_rules.proofs.PerQueue.{queue_here, queue_there, queue_cases, queue_cases₂}
-use Rattle.actor_rules.specs.Queues.{QueueLives, QueueIs, QueueIn, QueueStands}
+use Rattle.actor_rules.specs.Queues.{QueueIs, QueueIn, QueueStands}
+use Rattle.actor_rules.specs.Thread.{QueueLives}
 use Rattle.actor_rules.proofs.Threading.{put_here, number_by}
 use Rattle.verbs_rules.specs.Within.{Bounds}
 

@@ -1,17 +1,16 @@
 -- Whoever writes a word of news says an entry.
-use Rattle.std.proofs.Common.{◌≡◌, ◌≢◌, ℕ, zero, suc, ◌<◌, inl, inr, refl, sym, ap, subst, ◌∙◌, arith, true, List, [], ◌∷◌, length, map, is_some, option_map, Option, None, Some}
+use Rattle.std.proofs.Common.{◌≡◌, ◌≢◌, ℕ, zero, suc, ◌<◌, inl, inr, refl, sym, ap, subst, ◌∙◌, arith, true, List, [], ◌∷◌, length, is_some, option_map, Option, None, Some}
 use Rattle.bus_core.specs.declared.operation.BusOp.TheVariants.{Load}
 use Rattle.bus_core.specs.Mark.{Marked}
 use Rattle.bus_core.specs.Trace.{Memory}
 use Rattle.verbs_types.specs.declared.call.Call.{Call}
-use Rattle.verbs_types.specs.declared.call.Call.TheVariants.{Post, Recv, Poll, Drain}
 use Rattle.verbs_types.specs.declared.completion.Queue.{Queue}
 use Rattle.verbs_types.specs.declared.completion.Queue.TheVariants as queues
 use Rattle.verbs_types.specs.declared.declaration.Lines.{Lines}
 use Rattle.verbs_types.specs.declared.request.Item.{Item}
-use Rattle.verbs_types.specs.declared.request.Item.TheVariants.{Request as TheRequest, Receive as TheReceive}
 use Rattle.verbs_rules.specs.Within.{Bounds}
 use Rattle.verbs_rules.specs.Running.{Running}
+use Rattle.verbs_rules.specs.Shape.{Shape, Posts, Takes, Once, Until, shape_of}
 use Rattle.cqe_format.specs.declared.completion.Cqe.{Cqe}
 use Rattle.owner_ring.proofs.Slots.{slot_not_record, touches_slot}
 use Rattle.cq_pair.specs.Place.{ring_of}
@@ -26,15 +25,14 @@ use Rattle.device_engine.specs.Rule.{MayAt, said_at}
 use Rattle.device_engine.specs.State.{AdapterAt, AdapterRule, Looking, Recording, Reading, Publishing, Ending}
 use Rattle.actor_rules.specs.Actors.{Actors, adapter_entry, by, what_of}
 use Rattle.actor_rules.specs.Roles.{May, MayAny, part}
-use Rattle.actor_rules.specs.Calls.{MayCall, call_says}
+use Rattle.actor_rules.specs.Calls.{MayCall, call_says, MayIn, says_in}
 use Rattle.actor_rules.specs.Posting.{MayPost, post_now, post_says}
-use Rattle.actor_rules.specs.Thread.{Thread, queue_place}
+use Rattle.actor_rules.specs.Thread.{Thread, queue_place, queue_object, QueueLives}
 use Rattle.actor_rules.specs.Adapter.{AdapterStandsAt, Owes}
 use Rattle.adapter_law.proofs.Publishes as publishes
 use Rattle.actor_rules.specs.Holding.{Holds, IsMapped}
-use Rattle.post_law.proofs.Calls.{IsPostCall, now_of, post_call, receive_call}
-use Rattle.post_law.proofs.Now.{object_of, QueueTied, queue_tied, retirer_at, reader_at, place_fine, object_lives, touches_queue}
-use Rattle.actor_rules.specs.Queues.{QueueLives}
+use Rattle.post_law.proofs.Calls.{IsPostCall, now_of, post_call}
+use Rattle.post_law.proofs.Now.{QueueTied, queue_tied, retirer_at, reader_at, place_fine, object_lives, touches_queue}
 use Rattle.marked_stores.specs.News.{IsNews}
 use Rattle.marked_stores.specs.Stores.{SaysEntry}
 use Rattle.marked_stores.proofs.Places.{AreWords, IsNewsIn, news_in, ended_no_news}
@@ -48,7 +46,7 @@ some_made f None h = h
 some_made f (Some a) h = refl
 
 -- a word beside the tail and the record of a queue is no news of it
-beside_no_news : (d : Lines) (queue : Queue) (a : ℕ) → QueueLives d queue → a ≢ (queue_place d queue).tail → a ≢ (queue_place d queue).dbr → IsNewsIn d (object_of queue) a → ⊥
+beside_no_news : (d : Lines) (queue : Queue) (a : ℕ) → QueueLives d queue → a ≢ (queue_place d queue).tail → a ≢ (queue_place d queue).dbr → IsNewsIn d (queue_object queue) a → ⊥
 beside_no_news d (queues.Send qp) a lives tail dbr news = elim news [ inl record_word ↦ dbr record_word | inr tail_word ↦ tail tail_word ]
 beside_no_news d (queues.Recv qp) a lives tail dbr news = elim news [ inl record_word ↦ dbr record_word | inr tail_word ↦ tail tail_word ]
 beside_no_news d (queues.Shared srq) a lives tail dbr news = lives
@@ -76,13 +74,13 @@ module _ (d : Lines) (programs : List (List Call)) (bounds : Bounds) (words : Ar
 
     post_told : (queue : Queue) (items : List Item) (rest : List Call) → IsPostCall d programs (suc t) s queue items rest → MayPost d s queue items x → is_some (post_says d s queue items x.entry) ≡ true
     post_told queue items rest call may =
-        let lives = call.lives in
+        let lives = call.own.lives in
         let fine = place_fine d programs map_ok queue lives in
         let q = holds.stands.lists.queues queue in
         let mark = mark_of (now_of (length items) s.posting) in
-        let tied : QueueTied d programs m w queue (s.posters queue) q = subst (λ (n : ℕ). QueueTied d programs m w queue ((w.threads n).posters queue) q) call.own.1.owner (queue_tied d programs queue m w holds.stands.lists lives holds.stands.bare.objects) in
+        let tied : QueueTied d programs m w queue (s.posters queue) q = subst (λ (n : ℕ). QueueTied d programs m w queue ((w.threads n).posters queue) q) call.own.owner (queue_tied d programs queue m w holds.stands.lists lives holds.stands.bare.objects) in
         let inside = touches_queue d programs queue x.entry.addr lives (bring_inside (queue_place d queue) fine x.entry m (s.posters queue) (retirer_at d programs w queue) (reader_at d w queue) q mark tied may.goes_on.brings) in
-        let here = news_in d words (object_of queue) x.entry.addr (object_lives d programs queue lives) inside news in
+        let here = news_in d words (queue_object queue) x.entry.addr (object_lives d programs queue lives) inside news in
         elim (posters.brings (queue_place d queue) fine x.entry m (s.posters queue) (retirer_at d programs w queue) (reader_at d w queue) q mark tied may.goes_on.brings) [
           | posters.Loads load ↦ absurd (writes load)
           | posters.Beside tail dbr ↦ absurd (beside_no_news d queue x.entry.addr lives tail dbr here)
@@ -91,14 +89,12 @@ module _ (d : Lines) (programs : List (List Call)) (bounds : Bounds) (words : Ar
 
     call_told : (calls : List Call) → s.calls ≡ calls → MayCall d s (suc t) calls x → is_some (call_says d s calls x) ≡ true
     call_told [] is may = absurd (ended_no_news d words x.entry.addr may.sets.at_address news)
-    call_told (Post qp requests ∷ rest) is may =
-        let stands = holds.stands.bare.threads t in
-        post_told (queues.Send qp) (map TheRequest requests) rest (post_call d programs (suc t) s qp requests rest is stands.calls stands.work) may
-    call_told (Recv qp receives ∷ rest) is may =
-        let stands = holds.stands.bare.threads t in
-        post_told (queues.Recv qp) (map TheReceive receives) rest (receive_call d programs (suc t) s qp receives rest is stands.calls stands.work) may
-    call_told (Poll cq most ∷ rest) is may = (poll_told d s cq most x may writes).polled
-    call_told (Drain cq count ∷ rest) is may = (poll_told d s cq 1 x may writes).drained
+    call_told (call ∷ rest) is may = by_shape (shape_of call) refl may
+      where
+        by_shape : (shape : Shape) → shape_of call ≡ shape → MayIn d s shape x → is_some (says_in d s shape x) ≡ true
+        by_shape (Posts queue items) posts may = let stands = holds.stands.bare.threads t in post_told queue items rest (post_call d programs (suc t) s queue items call rest posts is stands.calls stands.work) may
+        by_shape (Takes cq (Once most)) posts may = (poll_told d s cq most x may writes).polled
+        by_shape (Takes cq (Until count)) posts may = (poll_told d s cq 1 x may writes).drained
 
   -- The adapter
 

@@ -4,14 +4,14 @@ use Rattle.std.specs.List.{flat_map}
 use Rattle.std.proofs.lemmas.Bool.{ne_eqb}
 use Rattle.std.proofs.lemmas.List.{take_all}
 use Rattle.verbs_types.specs.declared.call.Call.{Call}
-use Rattle.verbs_types.specs.declared.call.Call.TheVariants as calls
 use Rattle.verbs_types.specs.declared.completion.Completion.{Completion}
 use Rattle.verbs_types.specs.declared.completion.Queue.{Queue}
 use Rattle.verbs_types.specs.declared.entry.What.TheVariants.{Post, PostFull, Poll}
 use Rattle.verbs_types.specs.declared.request.Item.{Item}
-use Rattle.verbs_types.specs.declared.request.Item.TheVariants.{Request as TheRequest, Receive as TheReceive}
-use Rattle.verbs_rules.specs.Answered.{Due, Posting, Accepting, Polling, Draining, Retiring, Acking, MayAnswer, after_answer, due_by, settling}
-use Rattle.noted_history.specs.Posting.{list_of, lists_from, IsNext}
+use Rattle.verbs_rules.specs.Answered.{Due, Posting, Accepting, Polling, Draining, Retiring, Acking, MayAnswer, after_answer, due_by, settling, due_in}
+use Rattle.verbs_rules.specs.Shape.{Shape, shape_of}
+use Rattle.verbs_rules.specs.Shape as shapes
+use Rattle.noted_history.specs.Posting.{list_of, lists_from, IsNext, list_in}
 use Rattle.noted_history.specs.Behind.{owed_lists, IsCut, IsBehind}
 
 pub cut_same : (ls : List (List Item)) → IsCut ls ls
@@ -26,12 +26,14 @@ drains_post_none : (n cq : ℕ) (ds : List Due) → owed_lists (replicate n (Dra
 drains_post_none zero cq ds = refl
 drains_post_none (suc n) cq ds = drains_post_none n cq ds
 
+first_in : (shape : Shape) (ds : List Due) (ls : List (List Item)) → owed_lists ds ≡ ls → owed_lists (due_in shape ++ ds) ≡ list_in shape ++ ls
+first_in (shapes.Posts queue items) ds ls rest = ap (λ (all : List (List Item)). items ∷ all) rest
+first_in (shapes.Takes cq (shapes.Once most)) ds ls rest = rest
+first_in (shapes.Takes cq (shapes.Until count)) ds ls rest = drains_post_none count cq ds ∙ rest
+
 first_lists : (cs : List Call) → owed_lists (flat_map due_by cs) ≡ flat_map list_of cs
 first_lists [] = refl
-first_lists (calls.Post qp requests ∷ cs) = ap (λ (ls : List (List Item)). map TheRequest requests ∷ ls) (first_lists cs)
-first_lists (calls.Recv qp receives ∷ cs) = ap (λ (ls : List (List Item)). map TheReceive receives ∷ ls) (first_lists cs)
-first_lists (calls.Poll cq most ∷ cs) = first_lists cs
-first_lists (calls.Drain cq count ∷ cs) = drains_post_none count cq (flat_map due_by cs) ∙ first_lists cs
+first_lists (c ∷ cs) = first_in (shape_of c) (flat_map due_by cs) (flat_map list_of cs) (first_lists cs)
 
 pub behind_first : (cs : List Call) → IsBehind cs 0 (flat_map due_by cs)
 behind_first cs = cut_eq (owed_lists (flat_map due_by cs)) (flat_map list_of cs) (first_lists cs)

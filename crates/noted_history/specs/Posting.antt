@@ -1,17 +1,17 @@
 -- The lists that calls post.
-use Rattle.std.specs.Prelude.{ℕ, ◌≡◌, ◌+◌, List, [], ◌∷◌, map, drop, Some, slice_get}
+use Rattle.std.specs.Prelude.{ℕ, ◌≡◌, ◌+◌, List, [], ◌∷◌, drop, Some, slice_get}
 use Rattle.std.specs.List.{flat_map}
 use Rattle.verbs_types.specs.declared.call.Call.{Call}
-use Rattle.verbs_types.specs.declared.call.Call.TheVariants.{Post, Recv, Poll, Drain}
 use Rattle.verbs_types.specs.declared.request.Item.{Item}
-use Rattle.verbs_types.specs.declared.request.Item.TheVariants.{Request as TheRequest, Receive as TheReceive}
+use Rattle.verbs_rules.specs.Shape.{Shape, Posts, shape_of}
+
+abbrev pub list_in : Shape → List (List Item)
+list_in (Posts queue items) = items ∷ []
+list_in _ = []
 
 -- the list of a call that posts, and none of another
 abbrev pub list_of : Call → List (List Item)
-list_of (Post qp requests) = map TheRequest requests ∷ []
-list_of (Recv qp receives) = map TheReceive receives ∷ []
-list_of (Poll cq most) = []
-list_of (Drain cq count) = []
+list_of call = list_in (shape_of call)
 
 -- the lists that are left to be posted where `behind` calls are behind
 abbrev pub lists_from : List Call → ℕ → List (List Item)

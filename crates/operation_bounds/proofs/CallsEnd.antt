@@ -1,22 +1,20 @@
 -- A call that is no drain ends in time.
-use Rattle.std.proofs.Common.{◌≡◌, ℕ, suc, ◌<◌, ◌≤◌, sym, ap, ◌∙◌, subst, arith, false, List, [], ◌∷◌, ◌++◌, length, map, unwrap_or}
+use Rattle.std.proofs.Common.{◌≡◌, ℕ, suc, ◌<◌, ◌≤◌, sym, ap, ◌∙◌, subst, arith, false, List, [], ◌∷◌, ◌++◌, length, unwrap_or}
 use Rattle.std.specs.List.{AllByRecursion, fold}
 use Rattle.std.proofs.lemmas.Bool.{false≢true}
-use Rattle.std.proofs.lemmas.List.{length-map}
 use Rattle.std.proofs.lemmas.List.Sums.{fold-append}
 use Rattle.bus_core.specs.Mark.{Marked}
 use Rattle.verbs_types.specs.declared.call.Call.{Call}
-use Rattle.verbs_types.specs.declared.call.Call.TheVariants.{Post, Recv, Poll, Drain}
-use Rattle.verbs_types.specs.declared.completion.Queue.TheVariants as queues
+use Rattle.verbs_types.specs.declared.call.Call.TheVariants.{Drain}
 use Rattle.verbs_types.specs.declared.declaration.Lines.{Lines}
-use Rattle.verbs_types.specs.declared.request.Item.TheVariants.{Request as TheRequest, Receive as TheReceive}
+use Rattle.verbs_rules.specs.Shape.{Shape, Posts, Takes, Once, Until, shape_of}
 use Rattle.object_places.specs.Objects.{Mark}
 use Rattle.provider_post.specs.Call.{fresh_call}
 use Rattle.actor_rules.specs.Calls.{MayThread, after_thread}
 use Rattle.actor_rules.specs.Polling.{begun}
-use Rattle.actor_rules.specs.Ready.{IsOwnCall}
+use Rattle.actor_rules.specs.Ready.{IsOwnCall, IsOwnIn}
 use Rattle.actor_rules.specs.Thread.{Thread, fresh_thread}
-use Rattle.operation_bounds.specs.Calls.{CallsEnd, is_drain, most_operations, parts_of}
+use Rattle.operation_bounds.specs.Calls.{CallsEnd, is_drain, most_operations, is_until, parts_in}
 use Rattle.operation_bounds.specs.Stretch.{thread_by}
 use Rattle.provider_poll.proofs.LeftLoads.{poll_few}
 use Rattle.operation_bounds.proofs.PollSteps.{begun_goes}
@@ -25,19 +23,15 @@ use Rattle.operation_bounds.proofs.PostSteps.{posting_now}
 use Rattle.operation_bounds.proofs.Steps.{Keeps, step, stands_after, shrinks_all}
 use Rattle.actor_rules.specs.Holding.{IsMapped}
 use Rattle.operation_bounds.proofs.Stretches.{follows_first, follows_rest}
-use Rattle.operation_bounds.proofs.Threads.{Stands, Went, Over, On, Again, Ends, IsAtCall, left_of}
+use Rattle.operation_bounds.proofs.Threads.{Stands, Went, Over, On, Again, Ends, IsAtCall, left_of, IsIn, left_in}
 
 -- a call that begins or goes on is not far from its end
-few_left : (d : Lines) (programs : List (List Call)) (x : ℕ) (t : Thread) (call : Call) (rest : List Call) → IsOwnCall d programs x call → IsAtCall t (call ∷ rest) → is_drain call ≡ false → left_of t (call ∷ rest) < most_operations (parts_of call)
-few_left d programs x t (Post qp requests) rest own work plain =
-    let few = post_few (length (map TheRequest requests)) (t.posters (queues.Send qp)).stage (unwrap_or t.posting (fresh_call (length (map TheRequest requests)))) (posting_now (length (map TheRequest requests)) t.posting work.posting) in
-    let long : length (map TheRequest requests) ≡ length requests = length-map requests TheRequest in omega (arith, few.1, long)
-few_left d programs x t (Recv qp receives) rest own work plain =
-    let few = post_few (length (map TheReceive receives)) (t.posters (queues.Recv qp)).stage (unwrap_or t.posting (fresh_call (length (map TheReceive receives)))) (posting_now (length (map TheReceive receives)) t.posting work.posting) in
-    let long : length (map TheReceive receives) ≡ length receives = length-map receives TheReceive in omega (arith, few.1, long)
-few_left d programs x t (Poll cq most) rest own work plain =
-    let few = poll_few most (length t.given) (t.polls cq).host (t.polls cq).retirers (begun most (t.polls cq).state) (begun_goes most t.given (t.polls cq).state own.some work.poll) in omega (arith, few.1)
-few_left d programs x t (Drain cq count) rest own work plain = absurd (false≢true (sym plain))
+few_left : (d : Lines) (programs : List (List Call)) (x : ℕ) (t : Thread) (shape : Shape) → IsOwnIn d programs x shape → IsIn t shape → is_until shape ≡ false → left_in t shape < most_operations (parts_in shape)
+few_left d programs x t (Posts queue items) own work plain =
+    let few = post_few (length items) (t.posters queue).stage (unwrap_or t.posting (fresh_call (length items))) (posting_now (length items) t.posting work.posting) in omega (arith, few.1)
+few_left d programs x t (Takes cq (Once most)) own work plain =
+    let few = poll_few most (length t.given) (t.polls cq).host (t.polls cq).retirers (begun most (t.polls cq).state) (begun_goes most t.given (t.polls cq).state own.1 work.poll) in omega (arith, few.1)
+few_left d programs x t (Takes cq (Until count)) own work plain = absurd (false≢true (sym plain))
 
 module _ (d : Lines) (programs : List (List Call)) (x : ℕ) (map_ok : IsMapped d) (call : Call) (rest : List Call) (plain : is_drain call ≡ false) where
   never : (cq count : ℕ) (others : List Call) → call ∷ rest ≡ Drain cq count ∷ others → ⊥
@@ -67,6 +61,6 @@ calls_end d programs x map_ok ops h keeps before during call stretch within plai
     let same : length (fold (after_thread d) (thread_by d programs x before) during).calls ≡ length (thread_by d programs x before).calls = ap (λ (t : Thread). length t.calls) (sym (fold-append (after_thread d) (fresh_thread d programs x) before during)) ∙ within.goes_on in
     let bound = at_most_left d programs x map_ok call within.rest plain during (thread_by d programs x before) stands here within.begins same in
     let own = subst (AllByRecursion (IsOwnCall d programs x)) within.begins stands.own in
-    let few = few_left d programs x (thread_by d programs x before) call within.rest own.0 (subst (IsAtCall (thread_by d programs x before)) within.begins stands.work) plain in
+    let few = few_left d programs x (thread_by d programs x before) (shape_of call) own.0 (subst (IsAtCall (thread_by d programs x before)) within.begins stands.work) plain in
     let left = ap (left_of (thread_by d programs x before)) within.begins in
     omega (arith, bound, few, left)

@@ -22,9 +22,8 @@ use Rattle.provider_poll.specs.declared.state.PollState.TheVariants.{LookingUp}
 use Rattle.actor_rules.specs.Polling.{IsOnPolled, place_in, poll_mark}
 use Rattle.actor_rules.specs.Thread.{completing, poll_place}
 use Rattle.actor_rules.specs.Holding.{IsMapped}
-use Rattle.actor_rules.proofs.PollPlaces.{places_of}
+use Rattle.actor_rules.proofs.PollPlaces.{places_of, place_of_position, living_by_place}
 use Rattle.actor_rules.specs.Completions.{HasPlace}
-use Rattle.actor_rules.proofs.PollPlaces.{place_of_position, living_by_place}
 
 -- the place of a queue's view
 view_place : (d : Lines) (numbers : List ℕ) (rs : List Retirer) (k qp : ℕ) (q : SendView) → slice_get (queues_at (places_of d numbers) rs) k ≡ Some q → slice_get numbers k ≡ Some qp → q.place ≡ send_of d qp

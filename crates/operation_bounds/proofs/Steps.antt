@@ -26,10 +26,10 @@ module _ (d : Lines) (programs : List (List Call)) (x : ℕ) (map_ok : IsMapped 
   step_by : (t : Thread) (op : Marked Mark) (calls : List Call) → t.calls ≡ calls → Stands d programs x t → AllByRecursion (IsOwnCall d programs x) calls → IsAtCall t calls → MayCall d t x calls op → Stands d programs x (after_call d t calls op) × Went t (after_call d t calls op)
   step_by t op [] is h own work may = (record { own = h.own; staged = h.staged; hosts = h.hosts; work = subst (IsAtCall (after_call d t [] op)) (sym is) tt }, Ends is refl)
   step_by t op (Post qp requests ∷ rest) is h own work may =
-      post_step d programs x t (queues.Send qp) (map TheRequest requests) (Post qp requests) rest op h (record { calls = is; stands = work; goes_on = λ s i. i; left = λ s. refl }) (map_ok.placed d (Sends qp) map_ok.declared own.0.0.lives).fine may
+      post_step d programs x t (queues.Send qp) (map TheRequest requests) (Post qp requests) rest op h (record { calls = is; stands = work; goes_on = λ s i. i; left = λ s. refl }) (map_ok.placed d (Sends qp) map_ok.declared own.0.lives).fine may
   step_by t op (Recv qp receives ∷ rest) is h own work may =
       post_step d programs x t (queues.Recv qp) (map TheReceive receives) (Recv qp receives) rest op h (record { calls = is; stands = work; goes_on = λ s i. i; left = λ s. refl }) (map_ok.placed d (Receives qp) map_ok.declared own.0.lives).fine may
-  step_by t op (Poll cq most ∷ rest) is h own work may = poll_step d programs x t cq most op h own.0.some work may rest is
+  step_by t op (Poll cq most ∷ rest) is h own work may = poll_step d programs x t cq most op h own.0.1 work may rest is
   step_by t op (Drain cq count ∷ rest) is h own work may = drain_step d programs x t cq op h work may count rest is
 
   pub step : (t : Thread) (op : Marked Mark) → Stands d programs x t → MayThread d t x op → Stands d programs x (after_thread d t op) × Went t (after_thread d t op)

@@ -1,13 +1,12 @@
 -- What holds of a thread between its operations, and what one of them makes of its call.
-use Rattle.std.proofs.Common.{◌≡◌, ◌≢◌, ℕ, ◌<◌, sym, subst, List, [], ◌∷◌, length, map, unwrap_or, Option, None, Some}
+use Rattle.std.proofs.Common.{◌≡◌, ◌≢◌, ℕ, ◌<◌, sym, subst, List, [], ◌∷◌, length, unwrap_or, Option, None, Some}
 use Rattle.std.specs.List.{AllByRecursion}
 use Rattle.verbs_types.specs.declared.call.Call.{Call}
-use Rattle.verbs_types.specs.declared.call.Call.TheVariants.{Post, Recv, Poll, Drain}
+use Rattle.verbs_types.specs.declared.call.Call.TheVariants.{Drain}
 use Rattle.verbs_types.specs.declared.completion.Completion.{Completion}
 use Rattle.verbs_types.specs.declared.completion.Queue.{Queue}
-use Rattle.verbs_types.specs.declared.completion.Queue.TheVariants as queues
 use Rattle.verbs_types.specs.declared.declaration.Lines.{Lines}
-use Rattle.verbs_types.specs.declared.request.Item.TheVariants.{Request as TheRequest, Receive as TheReceive}
+use Rattle.verbs_rules.specs.Shape.{Shape, Posts, Takes, shape_of, most_of}
 use Rattle.provider_post.specs.declared.call.Call as post
 use Rattle.provider_post.specs.Call.{fresh_call}
 use Rattle.provider_post.specs.Left.{post_left}
@@ -54,12 +53,13 @@ pub record IsInPoll (t : Thread) (cq most : ℕ) : Type 0 where
   pub poll : IsPollAt most t.given (t.polls cq).state
   pub polls : AreIdle (λ other. other ≢ cq) t
 
+abbrev pub IsIn : Thread → Shape → Type 0
+IsIn t (Posts queue items) = IsInPost t (length items)
+IsIn t (Takes cq taking) = IsInPoll t cq (most_of taking)
+
 abbrev pub IsAtCall : Thread → List Call → Type 0
 IsAtCall t [] = Unit {0}
-IsAtCall t (Post qp requests ∷ rest) = IsInPost t (length (map TheRequest requests))
-IsAtCall t (Recv qp receives ∷ rest) = IsInPost t (length (map TheReceive receives))
-IsAtCall t (Poll cq most ∷ rest) = IsInPoll t cq most
-IsAtCall t (Drain cq count ∷ rest) = IsInPoll t cq 1
+IsAtCall t (call ∷ rest) = IsIn t (shape_of call)
 
 pub record Stands (d : Lines) (programs : List (List Call)) (x : ℕ) (t : Thread) : Type 0 where
   pub own : AllByRecursion (IsOwnCall d programs x) t.calls
@@ -67,13 +67,14 @@ pub record Stands (d : Lines) (programs : List (List Call)) (x : ℕ) (t : Threa
   pub hosts : (cq : ℕ) → IsHost (t.polls cq).host
   pub work : IsAtCall t t.calls
 
+begins_in : (t : Thread) (shape : Shape) → IsResting t → IsIn t shape
+begins_in t (Posts queue items) h = record { posting = subst (IsPostAt (length items)) (sym h.posting) tt; given = h.given; polls = h.polls }
+begins_in t (Takes cq taking) h = record { posting = h.posting; poll = subst (IsPollAt (most_of taking) t.given) (sym (h.polls cq tt)) h.given; polls = λ other apart. h.polls other tt }
+
 -- a thread that rests is about to begin any call
 pub begins : (t : Thread) (calls : List Call) → IsResting t → IsAtCall t calls
 begins t [] h = tt
-begins t (Post qp requests ∷ rest) h = record { posting = subst (IsPostAt (length (map TheRequest requests))) (sym h.posting) tt; given = h.given; polls = h.polls }
-begins t (Recv qp receives ∷ rest) h = record { posting = subst (IsPostAt (length (map TheReceive receives))) (sym h.posting) tt; given = h.given; polls = h.polls }
-begins t (Poll cq most ∷ rest) h = record { posting = h.posting; poll = subst (IsPollAt most t.given) (sym (h.polls cq tt)) h.given; polls = λ other apart. h.polls other tt }
-begins t (Drain cq count ∷ rest) h = record { posting = h.posting; poll = subst (IsPollAt 1 t.given) (sym (h.polls cq tt)) h.given; polls = λ other apart. h.polls other tt }
+begins t (call ∷ rest) h = begins_in t (shape_of call) h
 
 -- How much is left of it
 
@@ -83,13 +84,14 @@ post_now_left t queue items = post_left (t.posters queue).stage (unwrap_or t.pos
 abbrev pub poll_now_left : Thread → ℕ → ℕ → ℕ
 poll_now_left t cq most = poll_left (t.polls cq).host (t.polls cq).retirers (begun most (t.polls cq).state)
 
+abbrev pub left_in : Thread → Shape → ℕ
+left_in t (Posts queue items) = post_now_left t queue (length items)
+left_in t (Takes cq taking) = poll_now_left t cq (most_of taking)
+
 -- how many operations the first call still takes at most, or what a drain takes next
 abbrev pub left_of : Thread → List Call → ℕ
 left_of t [] = 0
-left_of t (Post qp requests ∷ rest) = post_now_left t (queues.Send qp) (length (map TheRequest requests))
-left_of t (Recv qp receives ∷ rest) = post_now_left t (queues.Recv qp) (length (map TheReceive receives))
-left_of t (Poll cq most ∷ rest) = poll_now_left t cq most
-left_of t (Drain cq count ∷ rest) = poll_now_left t cq 1
+left_of t (call ∷ rest) = left_in t (shape_of call)
 
 -- an operation ends the call, or brings it nearer to its end, or makes a drain look again; behind the last call it ends the thread
 pub data Went (t t' : Thread) : Type 0 where

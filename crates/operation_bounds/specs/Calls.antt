@@ -2,21 +2,25 @@
 use Rattle.std.specs.Prelude.{ℕ, ◌≡◌, ◌+◌, ◌*◌, ◌<◌, Bool, true, false, List, length}
 use Rattle.bus_core.specs.Mark.{Marked}
 use Rattle.verbs_types.specs.declared.call.Call.{Call}
-use Rattle.verbs_types.specs.declared.call.Call.TheVariants.{Post, Recv, Poll, Drain}
 use Rattle.verbs_types.specs.declared.declaration.Lines.{Lines}
+use Rattle.verbs_rules.specs.Shape.{Shape, Posts, Takes, Until, shape_of, count_of}
 use Rattle.object_places.specs.Objects.{Mark}
 use Rattle.operation_bounds.specs.Stretch.{IsStretch, IsWithin}
 
 -- the items of a call's list, or the most completions that it takes
+abbrev pub parts_in : Shape → ℕ
+parts_in (Posts queue items) = length items
+parts_in (Takes cq taking) = count_of taking
+
 abbrev pub parts_of : Call → ℕ
-parts_of (Post qp requests) = length requests
-parts_of (Recv qp receives) = length receives
-parts_of (Poll cq most) = most
-parts_of (Drain cq count) = count
+parts_of call = parts_in (shape_of call)
+
+abbrev pub is_until : Shape → Bool
+is_until (Takes cq (Until count)) = true
+is_until _ = false
 
 abbrev pub is_drain : Call → Bool
-is_drain (Drain cq count) = true
-is_drain _ = false
+is_drain call = is_until (shape_of call)
 
 -- how many operations a call of `parts` parts may take
 abbrev pub most_operations : ℕ → ℕ

@@ -6,7 +6,7 @@ use Rattle.std.proofs.lemmas.List.{get_or_past, get_or-set_same, get_or-set_othe
 use Rattle.std.proofs.Math.ListN.{length-set}
 use Rattle.bus_core.specs.Trace.{Memory}
 use Rattle.verbs_types.specs.declared.call.Call.{Call}
-use Rattle.verbs_types.specs.declared.call.Call.TheVariants.{Poll, Drain}
+use Rattle.verbs_types.specs.declared.call.Call.TheVariants.{Drain}
 use Rattle.verbs_types.specs.declared.completion.Completion.{Completion}
 use Rattle.verbs_types.specs.declared.completion.Queue.{Queue}
 use Rattle.verbs_types.specs.declared.declaration.Lines.{Lines}
@@ -22,20 +22,21 @@ use Rattle.provider_poll.specs.Rule.{PollRule}
 use Rattle.actor_rules.specs.Thread.{Thread}
 use Rattle.actor_rules.specs.Polling.{drain_left}
 use Rattle.actor_rules.specs.Actors.{Actors, by}
-use Rattle.actor_rules.specs.Dues.{dues_at, is_storing, store_dues, call_dues}
+use Rattle.actor_rules.specs.Dues.{dues_at, is_storing, store_dues, call_dues, dues_in}
 use Rattle.verbs_rules.specs.Proper.{Owes, dues_of_thread}
 use Rattle.verbs_rules.specs.Within as within
 use Rattle.verbs_laws.proofs.Choices.{either}
 use Rattle.actor_rules.proofs.Dues.{dues_at-set}
-use Rattle.actor_rules.specs.View.{view, given_in}
+use Rattle.actor_rules.specs.View.{view, given_in, written_of}
 use Rattle.actor_rules.specs.Queues.{written_by}
-use Rattle.actor_rules.specs.Ready.{IsOwnCall, IsOwnPoll}
-use Rattle.actor_rules.specs.Threads.{ThreadStands, StandsAt, PollsAt, IsPollFor, PollsRest}
+use Rattle.actor_rules.specs.Ready.{IsOwnCall, IsOwnPoll, IsOwnIn}
+use Rattle.actor_rules.specs.Threads.{ThreadStands, StandsAt, PollsAt, IsPollFor, PollsRest, StandsAs}
 use Rattle.actor_rules.specs.Holding.{Holds, Goes}
 use Rattle.actor_rules.proofs.Threading.{put_here, put_there}
 use Rattle.poll_law.proofs.Frame.{goes_on, poll_goes_on, IsPoller, stands_after}
 use Rattle.poll_outcomes.specs.Moves.{Moves}
 use Rattle.verbs_rules.specs.Within.{Bounds}
+use Rattle.verbs_rules.specs.Shape.{Shape, Takes, Once, Until, shape_of}
 use Rattle.actor_rules.proofs.Resting.{rest_owes, rest_silent, rest_stands}
 
 -- by how far the poll has come, with what is owed after it
@@ -64,30 +65,36 @@ pub record Job (d : Lines) (programs : List (List Call)) (x cq most : ℕ) (call
   pub leave : (th : Thread) → StandsAt th calls → PollsAt th cq most
   pub silent : (queue : Queue) (th : Thread) → written_by queue th calls ≡ []
 
-module _ (d : Lines) (programs : List (List Call)) (x cq : ℕ) (rest : List Call) where
-  abbrev pub poll_job : (most : ℕ) → AllByRecursion (IsOwnCall d programs x) (Poll cq most ∷ rest) → Job d programs x cq most (Poll cq most ∷ rest)
-  poll_job most own = record {
+module _ (d : Lines) (programs : List (List Call)) (x cq : ℕ) (call : Call) (rest : List Call) where
+  abbrev owes_as : Thread → Shape → List Due
+  owes_as th shape = dues_in d th.posting th.polls shape ++ flat_map due_by rest
+
+  abbrev pub poll_job : (most : ℕ) → shape_of call ≡ Takes cq (Once most) → AllByRecursion (IsOwnCall d programs x) (call ∷ rest) → Job d programs x cq most (call ∷ rest)
+  poll_job most so own = record {
     due = Polling cq most;
     more = flat_map due_by rest;
     left = rest;
-    owes = λ th. refl;
-    own = own.0;
+    owes = λ th. ap (owes_as th) so;
+    own = (subst (IsOwnIn d programs x) so own.0).0;
     all_own = own;
     left_own = own.1;
     left_owes = refl;
-    enter = λ th h. h;
-    leave = λ th h. h;
-    silent = λ queue th. refl;
+    enter = λ th h. subst (StandsAs th) (sym so) h;
+    leave = λ th h. subst (StandsAs th) so h;
+    silent = λ queue th. ap (written_of queue th.posting) so;
   }
 
-  module _ (count : ℕ) (own : AllByRecursion (IsOwnCall d programs x) (Drain cq count ∷ rest)) where
+  module _ (count : ℕ) (so : shape_of call ≡ Takes cq (Until count)) (own : AllByRecursion (IsOwnCall d programs x) (call ∷ rest)) where
+    abbrev own_drain : IsOwnIn d programs x (Takes cq (Until count))
+    own_drain = subst (IsOwnIn d programs x) so own.0
+
     one_first : (n : ℕ) → 0 < n → replicate n (Draining cq) ≡ Draining cq ∷ replicate (n - 1) (Draining cq)
     one_first zero some = absurd (omega (arith, some))
     one_first (suc n) some = let less : n ≡ suc n - 1 = omega arith in ap (λ (k : ℕ). Draining cq ∷ replicate k (Draining cq)) less
 
     pub drain_owes : (b : Bool) (stores : List Due) → (if b then stores ++ replicate (count - 1) (Draining cq) else replicate count (Draining cq)) ++ flat_map due_by rest ≡ (if b then stores else Draining cq ∷ []) ++ (replicate (count - 1) (Draining cq) ++ flat_map due_by rest)
     drain_owes true stores = append_assoc stores (replicate (count - 1) (Draining cq)) (flat_map due_by rest)
-    drain_owes false stores = ap (λ (ds : List Due). ds ++ flat_map due_by rest) (one_first count own.0.1)
+    drain_owes false stores = ap (λ (ds : List Due). ds ++ flat_map due_by rest) (one_first count own_drain.1)
 
     pub left_by_count : (b : Bool) → nat_le count 1 ≡ b → flat_map due_by (if b then rest else Drain cq (count - 1) ∷ rest) ≡ replicate (count - 1) (Draining cq) ++ flat_map due_by rest
     left_by_count true few = let none : 0 ≡ count - 1 = omega (arith, leb-true count 1 few) in ap (λ (k : ℕ). replicate k (Draining cq) ++ flat_map due_by rest) none
@@ -95,21 +102,21 @@ module _ (d : Lines) (programs : List (List Call)) (x cq : ℕ) (rest : List Cal
 
     pub own_by_count : (b : Bool) → nat_le count 1 ≡ b → AllByRecursion (IsOwnCall d programs x) (if b then rest else Drain cq (count - 1) ∷ rest)
     own_by_count true few = own.1
-    own_by_count false many = ((own.0.0, omega (arith, leb-false count 1 many)), own.1)
+    own_by_count false many = ((own_drain.0, omega (arith, leb-false count 1 many)), own.1)
 
-    abbrev pub drain_job : Job d programs x cq 1 (Drain cq count ∷ rest)
+    abbrev pub drain_job : Job d programs x cq 1 (call ∷ rest)
     drain_job = record {
       due = Draining cq;
       more = replicate (count - 1) (Draining cq) ++ flat_map due_by rest;
       left = drain_left cq count rest;
-      owes = λ th. drain_owes (is_storing (th.polls cq).state) (store_dues d cq (th.polls cq).state);
-      own = own.0.0;
+      owes = λ th. ap (owes_as th) so ∙ drain_owes (is_storing (th.polls cq).state) (store_dues d cq (th.polls cq).state);
+      own = own_drain.0;
       all_own = own;
       left_own = own_by_count (nat_le count 1) refl;
       left_owes = left_by_count (nat_le count 1) refl;
-      enter = λ th h. h;
-      leave = λ th h. h;
-      silent = λ queue th. refl;
+      enter = λ th h. subst (StandsAs th) (sym so) h;
+      leave = λ th h. subst (StandsAs th) so h;
+      silent = λ queue th. ap (written_of queue th.posting) so;
     }
 
 -- who owes something is one of the threads

@@ -15,7 +15,7 @@ use Rattle.provider_poll.specs.declared.state.PollState.{PollState}
 use Rattle.provider_poll.specs.Rule.{PollRule}
 use Rattle.actor_rules.specs.Family.{put_number}
 use Rattle.actor_rules.specs.Owners.{poster_of, poller_of}
-use Rattle.actor_rules.specs.Thread.{Thread}
+use Rattle.actor_rules.specs.Thread.{Thread, QueueLives}
 use Rattle.actor_rules.specs.Actors.{Actors}
 use Rattle.actor_rules.specs.Dues.{dues_at}
 use Rattle.verbs_rules.specs.Within.{Bounds, InBounds}
@@ -23,7 +23,7 @@ use Rattle.actor_rules.proofs.Threading.{put_here, put_there, number_by}
 use Rattle.actor_rules.specs.View.{View, view, post_written, poll_given, given_in}
 use Rattle.actor_rules.proofs.Seen.{seen_kept, seen_put}
 use Rattle.actor_rules.specs.Matching.{Match}
-use Rattle.actor_rules.specs.Queues.{QueueLives, QueueIn, IsItem, written_by}
+use Rattle.actor_rules.specs.Queues.{QueueIn, IsItem, written_by}
 use Rattle.actor_rules.specs.Completions.{CompletionsStand}
 use Rattle.actor_rules.specs.Threads.{ThreadStands, PollsRest}
 use Rattle.actor_rules.proofs.Threads.{threads_now}

@@ -1,12 +1,11 @@
 -- A thread's operation in a call that takes completions keeps what holds.
-use Rattle.std.proofs.Common.{◌≡◌, ℕ, suc, inl, inr, refl, sym, ap, subst, arith, ◌==◌, ◌<◌, Bool, false, if◌then◌else◌, List, [], ◌∷◌, length, option_map, Option, Some}
+use Rattle.std.proofs.Common.{◌≡◌, ℕ, suc, inl, inr, refl, ap, subst, arith, ◌==◌, ◌<◌, Bool, false, if◌then◌else◌, List, [], ◌∷◌, length, option_map, Option, Some}
 use Rattle.std.specs.List.{AllByRecursion}
 use Rattle.bus_core.specs.declared.turn.Step.{Step}
 use Rattle.bus_core.specs.declared.turn.Step.TheVariants.{More, Gave, Done}
 use Rattle.bus_core.specs.Mark.{Marked}
 use Rattle.bus_core.specs.Trace.{Memory, after_entry, Tells}
 use Rattle.verbs_types.specs.declared.call.Call.{Call}
-use Rattle.verbs_types.specs.declared.call.Call.TheVariants.{Poll, Drain, Post, Recv}
 use Rattle.verbs_types.specs.declared.completion.Completion.{Completion}
 use Rattle.verbs_types.specs.declared.declaration.Lines.{Lines}
 use Rattle.verbs_types.specs.declared.entry.What.{What}
@@ -19,7 +18,7 @@ use Rattle.provider_poll.specs.RuleStep.{after_poll_side}
 use Rattle.actor_rules.specs.Family.{put_number}
 use Rattle.actor_rules.specs.Thread.{Thread, poll_place}
 use Rattle.actor_rules.specs.Polling.{MayPoll, poll_now, poll_mark, polled, poll_says, took_some, given_after, drain_left, calls_after_poll, calls_after_drain}
-use Rattle.actor_rules.specs.Calls.{after_call, call_says, call_sees, MayCall}
+use Rattle.actor_rules.specs.Calls.{after_call, call_says, call_sees, MayCall, MayIn, after_in, says_in, sees_in}
 use Rattle.actor_rules.specs.Actors.{Actors, by, posted_with}
 use Rattle.verbs_laws.proofs.Choices.{differs}
 use Rattle.verbs_laws.proofs.GoesSettle.{polling_goes, draining_goes}
@@ -33,9 +32,9 @@ use Rattle.poll_law.proofs.Speaks.{Speaks}
 use Rattle.poll_law.proofs.Finish.{finish}
 use Rattle.poll_law.proofs.Steps.{comes}
 use Rattle.verbs_rules.specs.Within.{Bounds}
+use Rattle.verbs_rules.specs.Shape.{Shape, Posts, Takes, Once, Until, shape_of}
 use Rattle.load_law.specs.Law.{LoadsCome}
-use Rattle.poll_law.specs.Law.{is_poll, PollsGo}
-use Rattle.std.proofs.lemmas.Bool.{false≢true}
+use Rattle.poll_law.specs.Law.{IsPoll, PollsGo}
 
 module _ (loads : LoadsCome) (d : Lines) (programs : List (List Call)) (total : Bounds) (map : IsMapped d) (m : Memory) (w : Actors) (r : Running) (x : Marked Mark) (t : ℕ) (h : Holds d programs total m w r) (tells : Tells m x.entry) where
   abbrev th : Thread
@@ -43,6 +42,10 @@ module _ (loads : LoadsCome) (d : Lines) (programs : List (List Call)) (total : 
 
   abbrev goal : Thread → ℕ → Option What → Type 0
   goal now seen told = Goes d programs total (after_entry m x.entry) (record { adapter = w.adapter; threads = put_number w.threads (suc t) now; posted = posted_with w.posted told }) r seen (option_map (by (suc t)) told)
+
+  -- what is to be shown of an operation in a call of this shape, or with these calls
+  abbrev WantedIn : List Call → Shape → Type 0
+  WantedIn rest shape = goal (after_in d th shape rest x) (sees_in d th shape x) (says_in d th shape x)
 
   abbrev Wanted : List Call → Type 0
   Wanted calls = goal (after_call d th calls x) (call_sees d th calls x) (call_says d th calls x)
@@ -68,16 +71,16 @@ module _ (loads : LoadsCome) (d : Lines) (programs : List (List Call)) (total : 
 
   -- The two calls
 
-  module _ (cq most : ℕ) (rest : List Call) (calls_are : th.calls ≡ Poll cq most ∷ rest) where
-    abbrev job_of_poll : Job d programs (suc t) cq most (Poll cq most ∷ rest)
-    job_of_poll = poll_job d programs (suc t) cq rest most (own_calls (Poll cq most ∷ rest) calls_are)
+  module _ (call : Call) (rest : List Call) (calls_are : th.calls ≡ call ∷ rest) (cq most : ℕ) (so : shape_of call ≡ Takes cq (Once most)) where
+    abbrev job_of_poll : Job d programs (suc t) cq most (call ∷ rest)
+    job_of_poll = poll_job d programs (suc t) cq call rest most so (own_calls (call ∷ rest) calls_are)
 
-    poll_goes_on : (a : Step Completion PollAnswer) → IsOngoing a → calls_after_poll th.calls rest a ≡ Poll cq most ∷ rest
+    poll_goes_on : (a : Step Completion PollAnswer) → IsOngoing a → calls_after_poll th.calls rest a ≡ call ∷ rest
     poll_goes_on More going = calls_are
     poll_goes_on (Gave completion) going = calls_are
     poll_goes_on (Done a) going = absurd going
 
-    poll_speaks : Speaks d programs (suc t) cq most (Poll cq most ∷ rest) job_of_poll (calls_after_poll th.calls rest) (λ told. told)
+    poll_speaks : Speaks d programs (suc t) cq most (call ∷ rest) job_of_poll (calls_after_poll th.calls rest) (λ told. told)
     poll_speaks = record {
       goes_on = poll_goes_on;
       over = λ taken word some. refl;
@@ -91,14 +94,14 @@ module _ (loads : LoadsCome) (d : Lines) (programs : List (List Call)) (total : 
       goes = λ n total' v dues u others bounded owes. polling_goes n total' v dues cq most bounded u others owes;
     }
 
-    in_poll : MayPoll d th cq most x → Wanted th.calls
-    in_poll may = subst Wanted (sym calls_are) (goes cq most (Poll cq most ∷ rest) calls_are job_of_poll (calls_after_poll th.calls rest) (λ told. told) poll_speaks may)
+    in_poll : MayPoll d th cq most x → WantedIn rest (Takes cq (Once most))
+    in_poll may = goes cq most (call ∷ rest) calls_are job_of_poll (calls_after_poll th.calls rest) (λ told. told) poll_speaks may
 
-  module _ (cq count : ℕ) (rest : List Call) (calls_are : th.calls ≡ Drain cq count ∷ rest) where
-    abbrev job_of_drain : Job d programs (suc t) cq 1 (Drain cq count ∷ rest)
-    job_of_drain = drain_job d programs (suc t) cq rest count (own_calls (Drain cq count ∷ rest) calls_are)
+  module _ (call : Call) (rest : List Call) (calls_are : th.calls ≡ call ∷ rest) (cq count : ℕ) (so : shape_of call ≡ Takes cq (Until count)) where
+    abbrev job_of_drain : Job d programs (suc t) cq 1 (call ∷ rest)
+    job_of_drain = drain_job d programs (suc t) cq call rest count so (own_calls (call ∷ rest) calls_are)
 
-    drain_goes_on : (a : Step Completion PollAnswer) → IsOngoing a → calls_after_drain th.calls cq count rest a ≡ Drain cq count ∷ rest
+    drain_goes_on : (a : Step Completion PollAnswer) → IsOngoing a → calls_after_drain th.calls cq count rest a ≡ call ∷ rest
     drain_goes_on More going = calls_are
     drain_goes_on (Gave completion) going = calls_are
     drain_goes_on (Done a) going = absurd going
@@ -110,7 +113,7 @@ module _ (loads : LoadsCome) (d : Lines) (programs : List (List Call)) (total : 
     took : (taken : ℕ) → 0 < taken → (taken == 0) ≡ false
     took taken some = differs taken 0 (λ none. omega (arith, some, none))
 
-    drain_speaks : Speaks d programs (suc t) cq 1 (Drain cq count ∷ rest) job_of_drain (calls_after_drain th.calls cq count rest) took_some
+    drain_speaks : Speaks d programs (suc t) cq 1 (call ∷ rest) job_of_drain (calls_after_drain th.calls cq count rest) took_some
     drain_speaks = record {
       goes_on = drain_goes_on;
       over = λ taken word some. ap (λ (b : Bool). if b then th.calls else drain_left cq count rest) (took taken some);
@@ -124,15 +127,17 @@ module _ (loads : LoadsCome) (d : Lines) (programs : List (List Call)) (total : 
       goes = λ n total' v dues u others bounded owes. draining_goes n total' v dues u cq others bounded owes;
     }
 
-    in_drain : MayPoll d th cq 1 x → Wanted th.calls
-    in_drain may = subst Wanted (sym calls_are) (goes cq 1 (Drain cq count ∷ rest) calls_are job_of_drain (calls_after_drain th.calls cq count rest) took_some drain_speaks may)
+    in_drain : MayPoll d th cq 1 x → WantedIn rest (Takes cq (Until count))
+    in_drain may = goes cq 1 (call ∷ rest) calls_are job_of_drain (calls_after_drain th.calls cq count rest) took_some drain_speaks may
 
-  by_calls : (calls : List Call) → th.calls ≡ calls → IsFirst is_poll calls → MayCall d th (suc t) calls x → Wanted th.calls
+  by_shape : (call : Call) (rest : List Call) → th.calls ≡ call ∷ rest → (shape : Shape) → shape_of call ≡ shape → IsPoll shape → MayIn d th shape x → WantedIn rest shape
+  by_shape call rest is (Posts queue items) so polls may = absurd polls
+  by_shape call rest is (Takes cq (Once most)) so polls may = in_poll call rest is cq most so may
+  by_shape call rest is (Takes cq (Until count)) so polls may = in_drain call rest is cq count so may
+
+  by_calls : (calls : List Call) → th.calls ≡ calls → IsFirst IsPoll calls → MayCall d th (suc t) calls x → Wanted calls
   by_calls [] is polls may = absurd polls
-  by_calls (Post qp requests ∷ rest) is polls may = absurd (false≢true polls)
-  by_calls (Recv qp receives ∷ rest) is polls may = absurd (false≢true polls)
-  by_calls (Poll cq most ∷ rest) is polls may = in_poll cq most rest is may
-  by_calls (Drain cq count ∷ rest) is polls may = in_drain cq count rest is may
+  by_calls (call ∷ rest) is polls may = by_shape call rest is (shape_of call) refl polls may
 
 pub polls_go : LoadsCome → (d : Lines) (programs : List (List Call)) (total : Bounds) → IsMapped d → PollsGo d programs total
 polls_go loads d programs total map_ok t m w r x holds tells actor polls may = by_calls loads d programs total map_ok m w r x t holds tells (w.threads (suc t)).calls refl polls may

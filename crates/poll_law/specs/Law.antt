@@ -1,16 +1,15 @@
 -- The law of calls that take completions.
-use Rattle.std.specs.Prelude.{Bool, true, false, List}
+use Rattle.std.specs.Prelude.{List}
 use Rattle.verbs_types.specs.declared.call.Call.{Call}
-use Rattle.verbs_types.specs.declared.call.Call.TheVariants.{Poll, Drain}
 use Rattle.verbs_types.specs.declared.declaration.Lines.{Lines}
+use Rattle.verbs_rules.specs.Shape.{Shape, Takes}
 use Rattle.verbs_rules.specs.Within.{Bounds}
 use Rattle.actor_rules.specs.Holding.{CallsGo}
 
-abbrev pub is_poll : Call → Bool
-is_poll (Poll cq most) = true
-is_poll (Drain cq count) = true
-is_poll _ = false
+abbrev pub IsPoll : Shape → Type 0
+IsPoll (Takes cq taking) = Unit {0}
+IsPoll _ = ⊥
 
 -- each operation of a thread in a call that takes completions keeps what holds
 abbrev pub PollsGo : Lines → List (List Call) → Bounds → Type 0
-PollsGo d programs total = CallsGo d programs total is_poll
+PollsGo d programs total = CallsGo d programs total IsPoll

@@ -24,12 +24,12 @@ use Rattle.device_engine.specs.State.{send_cq}
 use Rattle.actor_rules.specs.Family.{put_number}
 use Rattle.actor_rules.specs.Polling.{place_in}
 use Rattle.verbs_laws.proofs.Choices.{either}
-use Rattle.actor_rules.specs.Queues.{QueueLives}
 use Rattle.actor_rules.specs.Completions.{CompletionsIn, CompletionsStand, ends_in, HasPlace}
 use Rattle.actor_rules.proofs.PollPlaces.{same_pair, living_by_place, place_by_living}
 use Rattle.poll_outcomes.specs.Now.{PollNow}
 use Rattle.actor_rules.specs.View.{View}
 use Rattle.actor_rules.specs.Objects.{Lists, sides, retirer_in, retirer_of}
+use Rattle.actor_rules.specs.Thread.{QueueLives}
 use Rattle.actor_rules.proofs.Threading.{put_here, put_there, put_keeps}
 use Rattle.actor_rules.proofs.PerQueue.{queue_here, queue_there, queue_cases}
 use Rattle.actor_rules.proofs.Kept.{completions_kept}

@@ -1,6 +1,5 @@
 -- Requests and states that are as they were.
 use Rattle.std.proofs.Common.{◌≡◌, ℕ, refl, ap, ◌∙◌, arith, List}
-use Rattle.verbs_types.specs.declared.completion.Queue.{Queue}
 use Rattle.verbs_rules.specs.State.{Verbs}
 use Rattle.counted_ring.specs.Queue.{Request, index_in}
 use Rattle.counted_ring.specs.Queue as counted

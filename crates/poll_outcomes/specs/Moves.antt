@@ -14,8 +14,8 @@ use Rattle.device_engine.specs.State.{send_cq}
 use Rattle.actor_rules.specs.Family.{put_number}
 use Rattle.actor_rules.specs.View.{View}
 use Rattle.actor_rules.specs.Objects.{Lists, AllTiedIn}
-use Rattle.actor_rules.specs.Queues.{QueueLives}
 use Rattle.actor_rules.specs.Completions.{CompletionsStand}
+use Rattle.actor_rules.specs.Thread.{QueueLives}
 
 -- what others see of it: the side of one completion queue, and what it has given
 abbrev pub polled_view : View → ℕ → PollRule → List Completion → View

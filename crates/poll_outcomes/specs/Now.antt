@@ -1,5 +1,5 @@
 -- What stands before an operation of a poll.
-use Rattle.std.specs.Prelude.{◌≡◌, ℕ, ◌+◌, ◌<◌, ◌^◌, List, ◌++◌, map}
+use Rattle.std.specs.Prelude.{◌≡◌, ℕ, ◌<◌, ◌^◌, List, ◌++◌, map}
 use Rattle.std.specs.List.{AllByRecursion}
 use Rattle.bus_core.specs.Trace.{Memory}
 use Rattle.verbs_types.specs.declared.completion.Completion.{Completion}
@@ -19,10 +19,10 @@ use Rattle.actor_rules.specs.View.{View}
 use Rattle.actor_rules.specs.Polling.{place_in}
 use Rattle.verbs_rules.specs.Sane.{Climbs, numbers_in, completed_by}
 use Rattle.actor_rules.specs.Objects.{AllTiedIn, Lists, retirer_in}
-use Rattle.actor_rules.specs.Queues.{QueueLives}
 use Rattle.actor_rules.specs.Completions.{CompletionsStand, HasPlace}
 use Rattle.actor_rules.specs.Threads.{IsPollFor}
 use Rattle.actor_rules.specs.Holding.{IsMapped}
+use Rattle.actor_rules.specs.Thread.{QueueLives}
 
 -- a completion of a queue pair that has a place
 pub record IsPlaced (d : Lines) (cq : ℕ) (u : Unpolled) : Type 0 where

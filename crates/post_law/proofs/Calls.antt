@@ -1,26 +1,24 @@
 -- A call to post, of a send or a receive queue, as its thread owes it.
-use Rattle.std.proofs.Common.{◌≡◌, ◌≢◌, ℕ, ◌<◌, ◌==◌, ◌||◌, refl, sym, ap, subst, ◌∙◌, arith, true, false, Bool, if◌then◌else◌, List, [], ◌∷◌, ◌++◌, length, map, Option, None, Some, is_some, unwrap_or}
-use Rattle.std.specs.List.{AllByRecursion, flat_map, list_all}
+use Rattle.std.proofs.Common.{◌≡◌, ◌≢◌, ℕ, ◌<◌, ◌==◌, ◌||◌, refl, sym, ap, subst, ◌∙◌, arith, true, false, Bool, if◌then◌else◌, List, [], ◌∷◌, ◌++◌, length, Option, None, Some, is_some, unwrap_or}
+use Rattle.std.specs.List.{AllByRecursion, flat_map}
 use Rattle.std.proofs.lemmas.Bool.{false≢true, eq-eqb, eqb-true, eqb-false}
 use Rattle.verbs_types.specs.declared.call.Call.{Call}
-use Rattle.verbs_types.specs.declared.call.Call.TheVariants.{Post, Recv}
 use Rattle.verbs_types.specs.declared.completion.Queue.{Queue}
 use Rattle.verbs_types.specs.declared.completion.Queue.TheVariants as queues
 use Rattle.verbs_types.specs.declared.declaration.Lines.{Lines}
 use Rattle.verbs_types.specs.declared.request.Item.{Item}
-use Rattle.verbs_types.specs.declared.request.Item.TheVariants.{Request as TheRequest, Receive as TheReceive}
 use Rattle.verbs_rules.specs.Answered.{due_by}
 use Rattle.verbs_rules.specs.Same.{same_queue}
 use Rattle.counted_ring.specs.Poster.{Poster}
 use Rattle.provider_post.specs.declared.call.Call as post
 use Rattle.provider_post.specs.Call.{is_written, fresh_call}
 use Rattle.actor_rules.specs.Thread.{Thread}
-use Rattle.actor_rules.specs.Dues.{thread_dues, call_dues, post_dues}
-use Rattle.verbs_rules.specs.Rows.{item_fits}
-use Rattle.actor_rules.specs.Queues.{QueueLives, written_by, segments_of}
-use Rattle.actor_rules.specs.View.{accepted}
-use Rattle.actor_rules.specs.Ready.{IsOwnCall, IsOwnPost}
-use Rattle.actor_rules.specs.Threads.{IsPosting, IsPostAt, StandsAt, PostsAt}
+use Rattle.actor_rules.specs.Dues.{thread_dues, call_dues, post_dues, dues_in}
+use Rattle.verbs_rules.specs.Shape.{Shape, Posts, shape_of}
+use Rattle.actor_rules.specs.Queues.{written_by}
+use Rattle.actor_rules.specs.View.{accepted, written_of}
+use Rattle.actor_rules.specs.Ready.{IsOwnCall, IsOwnPost, IsOwnIn}
+use Rattle.actor_rules.specs.Threads.{IsPosting, IsPostAt, StandsAt, PostsAt, StandsAs}
 
 -- how far a post is that may be about to begin
 abbrev pub now_of : ℕ → Option post.Call → post.Call
@@ -73,9 +71,7 @@ pub record IsPostCall (d : Lines) (programs : List (List Call)) (x : ℕ) (s : T
   pub goes_on : (thread : Thread) → thread.calls ≡ s.calls → PostsAt thread queue (length items) → StandsAt thread thread.calls
   pub silent : (thread : Thread) → thread.calls ≡ s.calls → (other : Queue) → other ≢ queue → written_by other thread thread.calls ≡ []
   pub writes : (thread : Thread) → thread.calls ≡ s.calls → written_by queue thread thread.calls ≡ accepted thread.posting items
-  pub lives : QueueLives d queue
-  pub own : (qp : ℕ) × IsOwnPost d programs x qp queue items
-  pub fits : list_all (item_fits queue (segments_of d queue)) items ≡ true
+  pub own : IsOwnPost d programs x queue items
   pub all_own : AllByRecursion (IsOwnCall d programs x) s.calls
   pub rest_own : AllByRecursion (IsOwnCall d programs x) rest
 
@@ -107,37 +103,16 @@ same_other (queues.Recv n) (queues.Shared k) differ = refl
 same_other (queues.Shared n) (queues.Send k) differ = refl
 same_other (queues.Shared n) (queues.Recv k) differ = refl
 
-module _ (d : Lines) (programs : List (List Call)) (x : ℕ) (s : Thread) where
-  pub post_call : (qp : ℕ) (requests : List _) (rest : List Call) → s.calls ≡ Post qp requests ∷ rest → AllByRecursion (IsOwnCall d programs x) s.calls → StandsAt s s.calls → IsPostCall d programs x s (queues.Send qp) (map TheRequest requests) rest
-  post_call qp requests rest is own work =
-      let own_is = subst (AllByRecursion (IsOwnCall d programs x)) is own in
-      let queue : Queue = queues.Send qp in
-      let items : List Item = map TheRequest requests in record {
-        dues = λ thread same. ap (call_dues d thread) (same ∙ is);
-        stands = subst (StandsAt s) is work;
-        goes_on = λ thread same h. subst (StandsAt thread) (sym (same ∙ is)) h;
-        silent = λ thread same other differ. ap (written_by other thread) (same ∙ is) ∙ ap (λ (b : Bool). if b then accepted thread.posting items else []) (same_other other queue differ);
-        writes = λ thread same. ap (written_by queue thread) (same ∙ is) ∙ ap (λ (b : Bool). if b then accepted thread.posting items else []) (same_self queue);
-        lives = own_is.0.0.lives;
-        own = (qp, own_is.0.0);
-        fits = own_is.0.0.fits;
-        all_own = own;
-        rest_own = own_is.1;
-      }
-
-  pub receive_call : (qp : ℕ) (receives : List _) (rest : List Call) → s.calls ≡ Recv qp receives ∷ rest → AllByRecursion (IsOwnCall d programs x) s.calls → StandsAt s s.calls → IsPostCall d programs x s (queues.Recv qp) (map TheReceive receives) rest
-  receive_call qp receives rest is own work =
-      let own_is = subst (AllByRecursion (IsOwnCall d programs x)) is own in
-      let queue : Queue = queues.Recv qp in
-      let items : List Item = map TheReceive receives in record {
-        dues = λ thread same. ap (call_dues d thread) (same ∙ is);
-        stands = subst (StandsAt s) is work;
-        goes_on = λ thread same h. subst (StandsAt thread) (sym (same ∙ is)) h;
-        silent = λ thread same other differ. ap (written_by other thread) (same ∙ is) ∙ ap (λ (b : Bool). if b then accepted thread.posting items else []) (same_other other queue differ);
-        writes = λ thread same. ap (written_by queue thread) (same ∙ is) ∙ ap (λ (b : Bool). if b then accepted thread.posting items else []) (same_self queue);
-        lives = own_is.0.lives;
-        own = (qp, own_is.0);
-        fits = own_is.0.fits;
-        all_own = own;
-        rest_own = own_is.1;
-      }
+-- whatever its first call is called
+pub post_call : (d : Lines) (programs : List (List Call)) (x : ℕ) (s : Thread) (queue : Queue) (items : List Item) (call : Call) (rest : List Call) → shape_of call ≡ Posts queue items → s.calls ≡ call ∷ rest → AllByRecursion (IsOwnCall d programs x) s.calls → StandsAt s s.calls → IsPostCall d programs x s queue items rest
+post_call d programs x s queue items call rest posts is own work =
+    let own_is = subst (AllByRecursion (IsOwnCall d programs x)) is own in record {
+      dues = λ thread same. ap (call_dues d thread) (same ∙ is) ∙ ap (λ (shape : Shape). dues_in d thread.posting thread.polls shape ++ flat_map due_by rest) posts;
+      stands = subst (StandsAs s) posts (subst (StandsAt s) is work);
+      goes_on = λ thread same h. subst (StandsAt thread) (sym (same ∙ is)) (subst (StandsAs thread) (sym posts) h);
+      silent = λ thread same other differ. ap (written_by other thread) (same ∙ is) ∙ ap (written_of other thread.posting) posts ∙ ap (λ (b : Bool). if b then accepted thread.posting items else []) (same_other other queue differ);
+      writes = λ thread same. ap (written_by queue thread) (same ∙ is) ∙ ap (written_of queue thread.posting) posts ∙ ap (λ (b : Bool). if b then accepted thread.posting items else []) (same_self queue);
+      own = subst (IsOwnIn d programs x) posts own_is.0;
+      all_own = own;
+      rest_own = own_is.1;
+    }

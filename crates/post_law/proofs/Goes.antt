@@ -33,7 +33,7 @@ use Rattle.provider_post.specs.Call.{is_written, mark_of, call_after, told_of}
 use Rattle.provider_post.specs.Item.{WritesItem, IsNextItem, IsWrittenItem}
 use Rattle.provider_post.specs.Rule.{PostRule, post_side_says, post_side_poster, post_side_call, entry_told, next_call}
 use Rattle.actor_rules.specs.Owners.{poster_of}
-use Rattle.actor_rules.specs.Thread.{Thread, queue_place}
+use Rattle.actor_rules.specs.Thread.{Thread, queue_place, queue_object, QueueLives, segments_of}
 use Rattle.actor_rules.specs.Family.{put_number}
 use Rattle.actor_rules.specs.Posting.{MayPost, after_post, calls_after_post, post_now, post_says, post_sees}
 use Rattle.actor_rules.specs.Actors.{Actors, by, posted_with}
@@ -44,13 +44,13 @@ use Rattle.actor_rules.proofs.Dues.{dues_at-set}
 use Rattle.actor_rules.proofs.Growing.{Grows, grows_refl, grows_event}
 use Rattle.actor_rules.specs.Matching.{Match}
 use Rattle.actor_rules.proofs.Matching.{match_push, match_length}
-use Rattle.actor_rules.specs.Queues.{QueueLives, QueueIs, IsItem, written, written_by, segments_of}
+use Rattle.actor_rules.specs.Queues.{QueueIs, IsItem, written, written_by}
 use Rattle.actor_rules.proofs.Resting.{rest_owes, rest_silent, rest_stands}
 use Rattle.actor_rules.specs.Threads.{IsPosting, ThreadStands, PostsAt, RestsAt}
 use Rattle.actor_rules.specs.Holding.{Stands, Holds, Goes, IsMapped, MayTurn}
 use Rattle.actor_rules.specs.View.{accepted, written_in}
 use Rattle.actor_rules.proofs.PerQueue.{either_queue, queue_here, queue_there}
-use Rattle.post_law.proofs.Now.{object_of, retirer_at, reader_at, QueueTied, queue_tied, place_fine, touches_queue, posts_on, Posts, stands_now, stands_still}
+use Rattle.post_law.proofs.Now.{retirer_at, reader_at, QueueTied, queue_tied, place_fine, touches_queue, posts_on, Posts, stands_now, stands_still}
 use Rattle.post_law.proofs.Calls.{now_of, dues_begun, accepted_begun, posting_now, IsOpen, is_open, IsPostCall}
 use Rattle.post_law.proofs.Legal.{CanPost, whole_goes, part_goes, full_goes}
 use Rattle.post_law.proofs.Ends.{ends, ends_open, ends_refused, ends_rung, ends_registered}
@@ -87,7 +87,7 @@ take_one (y ∷ ys) (suc n) x there = let e : suc n + 1 ≡ suc (n + 1) = omega 
 
 module _ (d : Lines) (programs : List (List Call)) (total : Bounds) (map : IsMapped d) (m : Memory) (w : Actors) (r : Running) (x : Marked Mark) (holds : Holds d programs total m w r)
     (t : ℕ) (queue : Queue) (items : List Item) (rest : List Call)
-    (lives : QueueLives d queue) (call : IsPostCall d programs (suc t) (w.threads (suc t)) queue items rest)
+    (call : IsPostCall d programs (suc t) (w.threads (suc t)) queue items rest)
     (tells : Tells m x.entry) (may : MayPost d (w.threads (suc t)) queue items x) where
   abbrev v : Verbs
   v = r.verbs
@@ -117,11 +117,14 @@ module _ (d : Lines) (programs : List (List Call)) (total : Bounds) (map : IsMap
   abbrev poster' : Poster
   poster' = post_side_poster place rule x.entry
 
+  lives : QueueLives d queue
+  lives = call.own.lives
+
   owner : poster_of programs queue ≡ suc t
-  owner = call.own.1.owner
+  owner = call.own.owner
 
   some : 0 < length items
-  some = call.own.1.some
+  some = call.own.some
 
   posting : IsPosting (length items) (s.posters queue) c
   posting = posting_now (length items) (s.posters queue) s.posting some call.stands.post
@@ -135,7 +138,7 @@ module _ (d : Lines) (programs : List (List Call)) (total : Bounds) (map : IsMap
   goes : requests.Goes place (after_entry m x.entry) poster' (retirer_at d programs w queue) (reader_at d w queue) q said
   goes = poster_step place m (s.posters queue) (retirer_at d programs w queue) (reader_at d w queue) q (mark_of c) x.entry (place_fine d programs map queue lives) tied tells may.goes_on.brings
 
-  inside : touches d (object_of queue) x.entry.addr ≡ true
+  inside : touches d (queue_object queue) x.entry.addr ≡ true
   inside = touches_queue d programs queue x.entry.addr lives (bring_inside place (place_fine d programs map queue lives) x.entry m (s.posters queue) (retirer_at d programs w queue) (reader_at d w queue) q (mark_of c) tied may.goes_on.brings)
 
   goes_with : (event : Option counted.WqEvent) → said ≡ event → requests.Goes place (after_entry m x.entry) poster' (retirer_at d programs w queue) (reader_at d w queue) q event
@@ -550,7 +553,7 @@ module _ (d : Lines) (programs : List (List Call)) (total : Bounds) (map : IsMap
       let some_long : length rung_items ≡ c.accepted = length-take c.accepted items ∙ min_is c.accepted (length items) (omega (arith, posting.some, posting.count)) in
       record {
         room = omega (arith, long_now waits, some_long, tied.shape.order.bound, old.retired, old.room);
-        fits = subst (λ (k : ℕ). list_all (rows.item_fits queue k) rung_items ≡ true) (sym old.segments) (all_take (rows.item_fits queue (segments_of d queue)) c.accepted items call.fits);
+        fits = subst (λ (k : ℕ). list_all (rows.item_fits queue k) rung_items ≡ true) (sym old.segments) (all_take (rows.item_fits queue (segments_of d queue)) c.accepted items call.own.fits);
       }
 
   steps : PostSteps

@@ -13,7 +13,7 @@ use Rattle.verbs_rules.specs.Within.{Bounds, InBounds, Goes}
 use Rattle.verbs_rules.specs.State.{Verbs}
 use Rattle.verbs_laws.proofs.GoesPost.{posting_shown, accepting_shown, full_shown}
 use Rattle.verbs_laws.proofs.GoesReceive.{receiving_goes, receiving_accepted_goes, receiving_full_goes}
-use Rattle.actor_rules.specs.Queues.{QueueLives}
+use Rattle.actor_rules.specs.Thread.{QueueLives}
 
 module _ (d : Lines) (n : ℕ) (bounds : Bounds) (v : Verbs) (dues : List (List Due)) (t : ℕ) (items : List Item) (rest : List Due) (bounded : InBounds n bounds v dues) where
   -- the queue has room for the items, and each fits it

@@ -21,7 +21,7 @@ use Rattle.object_places.specs.Objects.{Object, Completions, Sends, Receives, Li
 use Rattle.object_places.specs.Places.{qp_line}
 use Rattle.provider_poll.specs.Rule.{PollRule}
 use Rattle.actor_rules.specs.Owners.{poster_of, poller_of}
-use Rattle.actor_rules.specs.Thread.{Thread, queue_place}
+use Rattle.actor_rules.specs.Thread.{Thread, queue_place, queue_object, QueueLives}
 use Rattle.actor_rules.specs.Actors.{Actors}
 use Rattle.actor_rules.specs.Dues.{dues_at}
 use Rattle.actor_rules.specs.Family.{put_number}
@@ -37,19 +37,13 @@ use Rattle.verbs_laws.proofs.Sameness.{same_queue-true}
 use Rattle.provider_post.specs.declared.call.Call as post
 use Rattle.actor_rules.proofs.Families.{put_same}
 use Rattle.actor_rules.proofs.PerQueue.{queue_tells, queue_here, queue_there, queue_by, queue_cases}
-use Rattle.actor_rules.specs.Queues.{QueueLives, QueueIs, written_by}
+use Rattle.actor_rules.specs.Queues.{QueueIs, written_by}
 use Rattle.actor_rules.specs.Threads.{ThreadStands}
 use Rattle.actor_rules.proofs.Threads.{threads_now}
 use Rattle.actor_rules.specs.Holding.{IsSound, Stands, StandsIn, IsMapped}
 use Rattle.actor_rules.proofs.Frame.{frame_in}
 use Rattle.actor_rules.proofs.Growing.{Grows, grows_refl}
 use Rattle.actor_rules.proofs.Kept.{completions_kept, work_kept}
-
--- what posts on a work queue of a living pair is an object
-abbrev pub object_of : Queue → Object
-object_of (queues.Send qp) = Sends qp
-object_of (queues.Recv qp) = Receives qp
-object_of (queues.Shared srq) = Receives srq
 
 -- the retirer and the adapter's side of a work queue; no receive is taken or retired yet
 abbrev pub retirer_for : Lines → (ℕ → PollRule) → Queue → Retirer
@@ -83,12 +77,12 @@ module _ (d : Lines) (programs : List (List Call)) where
   queue_tied (queues.Recv qp) m w l lives all = all (Receives qp) lives
   queue_tied (queues.Shared srq) m w l lives all = absurd lives
 
-  object_tied : (queue : Queue) (m : Memory) (s : View) (l : Lists) → QueueLives d queue → QueueTiedIn d m s queue (s.posters queue) (l.queues queue) → TiedIn d m s l (object_of queue)
+  object_tied : (queue : Queue) (m : Memory) (s : View) (l : Lists) → QueueLives d queue → QueueTiedIn d m s queue (s.posters queue) (l.queues queue) → TiedIn d m s l (queue_object queue)
   object_tied (queues.Send qp) m s l lives t = t
   object_tied (queues.Recv qp) m s l lives t = t
   object_tied (queues.Shared srq) m s l lives t = absurd lives
 
-  pub object_lives : (queue : Queue) → QueueLives d queue → Lives d (object_of queue)
+  pub object_lives : (queue : Queue) → QueueLives d queue → Lives d (queue_object queue)
   object_lives (queues.Send qp) lives = lives
   object_lives (queues.Recv qp) lives = lives
   object_lives (queues.Shared srq) lives = absurd lives
@@ -98,7 +92,7 @@ module _ (d : Lines) (programs : List (List Call)) where
   place_fine map (queues.Recv qp) lives = (map.placed d (Receives qp) map.declared lives).fine
   place_fine map (queues.Shared srq) lives = absurd lives
 
-  pub touches_queue : (queue : Queue) (a : ℕ) → QueueLives d queue → place_of.touches (queue_place d queue) a ≡ true → touches d (object_of queue) a ≡ true
+  pub touches_queue : (queue : Queue) (a : ℕ) → QueueLives d queue → place_of.touches (queue_place d queue) a ≡ true → touches d (queue_object queue) a ≡ true
   touches_queue (queues.Send qp) a lives h = h
   touches_queue (queues.Recv qp) a lives h = h
   touches_queue (queues.Shared srq) a lives h = absurd lives
@@ -118,7 +112,7 @@ module _ (d : Lines) (programs : List (List Call)) where
 
     -- What the operation made: of the words and the queue that they stand for, where this is posted on the state's queue and this is told, and of its thread.
     pub record Posts (list told : List Item) (dues' : List (List Due)) : Type 0 where
-      pub inside : touches d (object_of queue) e.addr ≡ true
+      pub inside : touches d (queue_object queue) e.addr ≡ true
       pub tied : QueueTied d programs (after_entry m e) w queue poster q
       pub stands_for : QueueIs d (written_in queue posting calls) told (record (queue_in v queue) { posted = list }) q queue
       pub grows : Grows (stands.lists.queues queue) q
@@ -159,13 +153,13 @@ module _ (d : Lines) (programs : List (List Call)) where
         taken = w.adapter.taken;
       }
 
-      other_sides : (p : Object) → Lives d p → p ≢ object_of queue → sides d s' l' p ≡ sides d s l p
+      other_sides : (p : Object) → Lives d p → p ≢ queue_object queue → sides d s' l' p ≡ sides d s l p
       other_sides (Completions cq) alive differ = refl
       other_sides (Sends qp) alive differ =
-          let apart : queues.Send qp ≢ queue = λ same. differ (ap object_of same) in
+          let apart : queues.Send qp ≢ queue = λ same. differ (ap queue_object same) in
           λ i. record (sides d s l (Sends qp)) { poster = queue_there s.posters queue poster (queues.Send qp) apart i; words = queue_there l.queues queue q (queues.Send qp) apart i }
       other_sides (Receives qp) alive differ =
-          let apart : queues.Recv qp ≢ queue = λ same. differ (ap object_of same) in
+          let apart : queues.Recv qp ≢ queue = λ same. differ (ap queue_object same) in
           λ i. record (sides d s l (Receives qp)) { poster = queue_there s.posters queue poster (queues.Recv qp) apart i; words = queue_there l.queues queue q (queues.Recv qp) apart i }
 
       grows_all : (qp : ℕ) → Grows (l.queues (queues.Send qp)) (l'.queues (queues.Send qp))
@@ -178,7 +172,7 @@ module _ (d : Lines) (programs : List (List Call)) where
           subst (λ (x : View). StandsIn d programs total m' x (now s'.told).threads w.adapter v' dues') (sym view_now) (record {
             lists = l';
             bare = record {
-              objects = frame_in d map m e s s' l l' b.objects (object_of queue) (object_lives queue lives) made.inside other_sides
+              objects = frame_in d map m e s s' l l' b.objects (queue_object queue) (object_lives queue lives) made.inside other_sides
                   (object_tied queue m' s' l' lives (coe 1 0 (i. QueueTiedIn d m' s queue (queue_here s.posters queue poster i) (queue_here l.queues queue q i)) made.tied));
               state = record {
                 queues = queue_by (λ k b. QueueLives d k → QueueIs d (if b then written_in queue posting calls else s.written k) (if b then told else w.posted k) (record (queue_in v k) { posted = if b then list else v.posted k }) (if b then q else l.queues k) k) queue (λ alive. made.stands_for) (λ k differ alive. b.state.queues k alive);

@@ -73,15 +73,14 @@ module _ (s : ScenarioParts) (can : CanRun s) (t : ℕ) where
 
   own_call : (c : Call) → IsCall s.lines c → IsAmong c → IsOwnCall s.lines s.programs (suc t) c
   own_call (Post qp requests) h among =
-      let long : length (map TheRequest requests) ≡ length requests = simp length-map in (
-        record {
-          lives = h.0;
-          owner = owns (actors.posts_on (queues.Send qp)) (scenario.posts_on qp) (Post qp requests) (posts_are qp) (can.poster qp) among (eq-eqb qp qp refl);
-          some = omega (arith, long, h.1.0);
-          fits = nops_fit qp (qp_line s.lines qp).segments requests h.2;
-        },
-        nops_of requests h.2,
-      )
+      let long : length (map TheRequest requests) ≡ length requests = simp length-map in
+      record {
+        lives = h.0;
+        owner = owns (actors.posts_on (queues.Send qp)) (scenario.posts_on qp) (Post qp requests) (posts_are qp) (can.poster qp) among (eq-eqb qp qp refl);
+        some = omega (arith, long, h.1.0);
+        fits = nops_fit qp (qp_line s.lines qp).segments requests h.2;
+        built = nops_of requests h.2;
+      }
   own_call (Recv qp receives) h among =
       let long : length (map TheReceive receives) ≡ length receives = simp length-map in
       record {
@@ -89,8 +88,9 @@ module _ (s : ScenarioParts) (can : CanRun s) (t : ℕ) where
         owner = owns (actors.posts_on (queues.Recv qp)) (scenario.receives_on qp) (Recv qp receives) (receives_are qp) (can.receiver qp) among (eq-eqb qp qp refl);
         some = omega (arith, long, h.1.0);
         fits = receives_fit qp (qp_line s.lines qp).segments receives (subst (λ n. All (CanReceive n) receives) (segments_are s.lines qp) h.2);
+        built = tt;
       }
-  own_call (Poll cq most) h among = polls_own (Poll cq most) cq most among (eq-eqb cq cq refl) h.0 (omega (arith, h.1.0)) h.1.1
+  own_call (Poll cq most) h among = (polls_own (Poll cq most) cq most among (eq-eqb cq cq refl) h.0 (omega (arith, h.1.0)) h.1.1, omega (arith, h.1.0))
   own_call (Drain cq count) h among = (polls_own (Drain cq count) cq 1 among (eq-eqb cq cq refl) h.0 (omega arith) (omega arith), omega (arith, h.1.0))
 
   pub own_calls : AllByRecursion (IsOwnCall s.lines s.programs (suc t)) (program_of s.programs (suc t))

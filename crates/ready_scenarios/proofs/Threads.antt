@@ -25,7 +25,7 @@ can_call d (Recv qp receives) declared h =
     let long : length (map TheReceive receives) ≡ length receives = simp length-map in
     record { lives = h.0; fits = record { some = omega (arith, long, h.1.0); few = omega (arith, long, h.1.1); taken = takes_receives d qp receives declared h.0 h.2 } }
 can_call d (Poll cq most) declared h = record { lives = h.0; fits = (omega (arith, h.1.0), h.1.1) }
-can_call d (Drain cq count) declared h = record { lives = h.0; fits = tt }
+can_call d (Drain cq count) declared h = record { lives = h.0; fits = (omega arith, omega arith) }
 
 pub thread_runs : (s : ScenarioParts) → scenario.CanRun s → (t : ℕ) → t < length s.programs → CanRun s.lines (suc t) (program_of s.programs (suc t))
 thread_runs s can t low = record {

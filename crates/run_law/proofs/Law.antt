@@ -4,12 +4,12 @@ use Rattle.bus_core.specs.Follow.{Follows}
 use Rattle.bus_core.specs.Mark.{Marked}
 use Rattle.bus_core.specs.Trace.{Memory, Tells, after_entry}
 use Rattle.verbs_types.specs.declared.call.Call.{Call}
-use Rattle.verbs_types.specs.declared.call.Call.TheVariants.{Post, Recv, Poll, Drain}
 use Rattle.verbs_types.specs.declared.declaration.Lines.{Lines}
 use Rattle.verbs_rules.specs.Answered.{Due, MayAnswer, after_answer, own_entries}
 use Rattle.verbs_rules.specs.Within.{Bounds}
 use Rattle.verbs_rules.specs.Start.{start}
 use Rattle.verbs_rules.specs.Running.{Running}
+use Rattle.verbs_rules.specs.Shape.{Shape, Posts, Takes, shape_of}
 use Rattle.actor_map.specs.Notes.{Told, entries_of}
 use Rattle.actor_map.specs.Start.{start_words}
 use Rattle.object_places.specs.Apart.{ArePlaced, AreApart, AreAtStart}
@@ -29,8 +29,8 @@ use Rattle.actor_rules.proofs.Phases.{run_keeps}
 use Rattle.run_law.proofs.Woven.{turns_follow, legal_turns, serving_turns, answered_turns}
 use Rattle.actor_rules.proofs.Told.{entries_told}
 use Rattle.adapter_law.specs.Law.{AdapterGoes}
-use Rattle.post_law.specs.Law.{is_post, PostsGo}
-use Rattle.poll_law.specs.Law.{is_poll, PollsGo}
+use Rattle.post_law.specs.Law.{IsPost, PostsGo}
+use Rattle.poll_law.specs.Law.{IsPoll, PollsGo}
 
 module _ (d : Lines) (programs : List (List Call)) (bounds : Bounds) (map_ok : IsMapped d) (adapter : AdapterGoes d programs bounds) (posts : PostsGo d programs bounds) (polls : PollsGo d programs bounds) where
   module _ (t : ℕ) (m : Memory) (w : Actors) (r : Running) (x : Marked Mark) (holds : Holds d programs bounds m w r) (tells : Tells m x.entry) (actor : x.entry.actor ≡ suc t) (may : MayThread d (w.threads (suc t)) (suc t) x) where
@@ -43,10 +43,11 @@ module _ (d : Lines) (programs : List (List Call)) (bounds : Bounds) (map_ok : I
 
     by_calls : (calls : List Call) → s.calls ≡ calls → Goal s.calls
     by_calls [] is = subst Goal (sym is) (end_goes d programs bounds w t map_ok m r x holds (subst (λ (calls : List Call). MayCall d s (suc t) calls x) is may))
-    by_calls (Post qp requests ∷ rest) is = posts t m w r x holds tells actor (subst (IsFirst is_post) (sym is) refl) may
-    by_calls (Recv qp receives ∷ rest) is = posts t m w r x holds tells actor (subst (IsFirst is_post) (sym is) refl) may
-    by_calls (Poll cq most ∷ rest) is = polls t m w r x holds tells actor (subst (IsFirst is_poll) (sym is) refl) may
-    by_calls (Drain cq count ∷ rest) is = polls t m w r x holds tells actor (subst (IsFirst is_poll) (sym is) refl) may
+    by_calls (call ∷ rest) is = by_shape (shape_of call) refl
+      where
+        by_shape : (shape : Shape) → shape_of call ≡ shape → Goal s.calls
+        by_shape (Posts queue items) so = posts t m w r x holds tells actor (subst (IsFirst IsPost) (sym is) (subst IsPost (sym so) tt)) may
+        by_shape (Takes cq taking) so = polls t m w r x holds tells actor (subst (IsFirst IsPoll) (sym is) (subst IsPoll (sym so) tt)) may
 
   -- each operation keeps what holds
   pub all_go : AllGo d programs bounds

@@ -6,7 +6,6 @@ use Rattle.std.proofs.lemmas.Bool.{and_parts, ltb-true, cond_both}
 use Rattle.std.proofs.lemmas.Option.{slice_get-get_or}
 use Rattle.std.proofs.lemmas.List.{length-map}
 use Rattle.verbs_types.specs.declared.call.Call.{Call}
-use Rattle.verbs_types.specs.declared.call.Call.TheVariants.{Recv}
 use Rattle.verbs_types.specs.declared.completion.Queue.{Queue}
 use Rattle.verbs_types.specs.declared.completion.Queue.TheVariants as queues
 use Rattle.verbs_types.specs.declared.declaration.Lines.{Lines}
@@ -28,7 +27,7 @@ use Rattle.counted_ring.proofs.Tied.{Tied}
 use Rattle.object_places.specs.Apart.{AreAtStart}
 use Rattle.object_places.specs.Objects.{Object, Completions, Sends, Receives, Lives}
 use Rattle.object_places.specs.Places.{send_of, receive_of, completions_of, qp_line, cq_line, no_qp, no_cq}
-use Rattle.actor_rules.specs.Thread.{fresh_thread, fresh_poll, program_of, completing, queue_place, queue_start}
+use Rattle.actor_rules.specs.Thread.{fresh_thread, fresh_poll, program_of, completing, queue_place, queue_start, QueueLives, segments_of}
 use Rattle.actor_rules.specs.Actors.{Actors, fresh_actors}
 use Rattle.actor_rules.specs.Polling.{place_in}
 use Rattle.device_engine.specs.State.{AdapterAt, Looking, Ending, send_cq, first_work, fresh_adapter}
@@ -38,7 +37,7 @@ use Rattle.provider_poll.specs.declared.state.PollState.TheVariants.{Idle}
 use Rattle.actor_rules.specs.Owners.{poster_of}
 use Rattle.actor_rules.specs.Matching.{Match}
 use Rattle.actor_rules.specs.Objects.{Lists, IsTied, retirer_in}
-use Rattle.actor_rules.specs.Queues.{QueueLives, QueueStands, IsItem, segments_of, written}
+use Rattle.actor_rules.specs.Queues.{QueueStands, IsItem, written}
 use Rattle.actor_rules.specs.Completions.{CompletionsStand, IsCompletion, AskedFor}
 use Rattle.actor_rules.specs.Adapter.{AdapterStandsAt}
 use Rattle.actor_rules.specs.Ready.{AreReady, IsOwnCall, first_dues}

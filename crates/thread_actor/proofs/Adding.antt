@@ -7,12 +7,12 @@ use Rattle.std.proofs.lemmas.Bool.{false≢true}
 use Rattle.std.proofs.lemmas.Option.{slice_get_read}
 use Rattle.std.proofs.lemmas.Bool.Decides.{eqb_tells}
 use Rattle.verbs_types.specs.declared.call.Call.{Call}
-use Rattle.verbs_types.specs.declared.call.Call.TheVariants.{Post, Recv, Poll, Drain}
 use Rattle.verbs_types.specs.declared.completion.Queue.{Queue}
 use Rattle.verbs_types.specs.declared.completion.Queue.TheVariants as queues
 use Rattle.verbs_types.specs.declared.declaration.Lines.{Lines}
 use Rattle.verbs_types.specs.declared.declaration.TheConstants.{FIRST_QP}
 use Rattle.verbs_types.specs.Lines.{is_among}
+use Rattle.verbs_rules.specs.Shape.{Shape, Posts, Takes, shape_of}
 use Rattle.actor_map.specs.Sizes.{words_of}
 use Rattle.object_places.specs.Places.{IsWithin, send_of, receive_of, qp_line}
 use Rattle.object_places.proofs.Lines.{qp_number, cq_number}
@@ -22,7 +22,7 @@ use Rattle.provider_poll.specs.Poll.{PollView, LiesWithin}
 use Rattle.actor_rules.specs.Thread.{queue_place, queue_start}
 use Rattle.thread_actor.specs.NewSides.{IsNewPost, IsNewPoll, AreNew, AddsPost, AddsPoll}
 use Rattle.thread_actor.specs.Sides.{SidesView, joined, side_at, pair_side, post_side, poll_side, IfThere}
-use Rattle.thread_actor.specs.Stands.{HasSide}
+use Rattle.thread_actor.specs.Stands.{HasSide, HasSideIn}
 use Rattle.thread_actor.proofs.Places.{set_here, set_there, pair_is, pair_there, with_sends, with_receives, with_polls}
 
 -- sides by number, to which one is added
@@ -64,7 +64,7 @@ module _ (d : Lines) (s : SidesView) (fresh : AreNew d s) where
         takes = fresh.takes;
       };
       has = subst (λ (o : Option PostView). IsSome o) (sym here) refl;
-      kept = kept;
+      kept = λ other h. kept (shape_of other) h;
     } where
       here : pair_side sends qp ≡ Some side
       here = pair_is sends qp side least (set_here s.sends (qp - FIRST_QP) None (Some side) found)
@@ -77,11 +77,11 @@ module _ (d : Lines) (s : SidesView) (fresh : AreNew d s) where
       posts (queues.Recv k) = fresh.posts (queues.Recv k)
       posts (queues.Shared k) = tt
 
-      kept : (other : Call) → HasSide s other → HasSide (with_sends s sends) other
-      kept (Post k requests) h = kept_there (pair_side s.sends) (pair_side sends) qp side here there k h
-      kept (Recv k list) h = h
-      kept (Poll cq most) h = h
-      kept (Drain cq count) h = h
+      kept : (other : Shape) → HasSideIn s other → HasSideIn (with_sends s sends) other
+      kept (Posts (queues.Send k) items) h = kept_there (pair_side s.sends) (pair_side sends) qp side here there k h
+      kept (Posts (queues.Recv k) items) h = h
+      kept (Posts (queues.Shared k) items) h = h
+      kept (Takes cq taking) h = h
 
     pub adds_receive : slice_get s.receives (qp - FIRST_QP) ≡ Some None → IsNewPost d (queues.Recv qp) side → AddsPost d s (with_receives s (slice_set s.receives (qp - FIRST_QP) (Some side))) (queues.Recv qp)
     adds_receive found new = record {
@@ -94,7 +94,7 @@ module _ (d : Lines) (s : SidesView) (fresh : AreNew d s) where
         takes = fresh.takes;
       };
       has = subst (λ (o : Option PostView). IsSome o) (sym here) refl;
-      kept = kept;
+      kept = λ other h. kept (shape_of other) h;
     } where
       here : pair_side receives qp ≡ Some side
       here = pair_is receives qp side least (set_here s.receives (qp - FIRST_QP) None (Some side) found)
@@ -107,11 +107,11 @@ module _ (d : Lines) (s : SidesView) (fresh : AreNew d s) where
       posts (queues.Recv k) = all_there (pair_side s.receives) (pair_side receives) qp side here there (λ n. IsNewPost d (queues.Recv n)) new (λ n. fresh.posts (queues.Recv n)) k
       posts (queues.Shared k) = tt
 
-      kept : (other : Call) → HasSide s other → HasSide (with_receives s receives) other
-      kept (Post k requests) h = h
-      kept (Recv k list) h = kept_there (pair_side s.receives) (pair_side receives) qp side here there k h
-      kept (Poll cq most) h = h
-      kept (Drain cq count) h = h
+      kept : (other : Shape) → HasSideIn s other → HasSideIn (with_receives s receives) other
+      kept (Posts (queues.Send k) items) h = h
+      kept (Posts (queues.Recv k) items) h = kept_there (pair_side s.receives) (pair_side receives) qp side here there k h
+      kept (Posts (queues.Shared k) items) h = h
+      kept (Takes cq taking) h = h
 
   module _ (cq : ℕ) (side : PollView) where
     abbrev polls : List (Option PollView)
@@ -128,7 +128,7 @@ module _ (d : Lines) (s : SidesView) (fresh : AreNew d s) where
         takes = all_there (side_at s.polls) (side_at polls) cq side here there (IsNewPoll d) new fresh.takes;
       };
       has = subst (λ (o : Option PollView). IsSome o) (sym here) refl;
-      kept = kept;
+      kept = λ other h. kept (shape_of other) h;
     } where
       here : side_at polls cq ≡ Some side
       here = ap joined (set_here s.polls cq None (Some side) found)
@@ -141,11 +141,11 @@ module _ (d : Lines) (s : SidesView) (fresh : AreNew d s) where
       posts (queues.Recv k) = fresh.posts (queues.Recv k)
       posts (queues.Shared k) = tt
 
-      kept : (other : Call) → HasSide s other → HasSide (with_polls s polls) other
-      kept (Post k requests) h = h
-      kept (Recv k list) h = h
-      kept (Poll k most) h = kept_there (side_at s.polls) (side_at polls) cq side here there k h
-      kept (Drain k count) h = kept_there (side_at s.polls) (side_at polls) cq side here there k h
+      kept : (other : Shape) → HasSideIn s other → HasSideIn (with_polls s polls) other
+      kept (Posts (queues.Send k) items) h = h
+      kept (Posts (queues.Recv k) items) h = h
+      kept (Posts (queues.Shared k) items) h = h
+      kept (Takes k taking) h = kept_there (side_at s.polls) (side_at polls) cq side here there k h
 
 -- the item that is read at a place
 found_at : {X : Type 0} (xs : List X) (k j : ℕ) (item : X) → k ≡ j → j < length xs → item ≡ get_or xs k item → slice_get xs j ≡ Some item

@@ -1,19 +1,17 @@
 -- The last turn of a thread.
-use Rattle.std.proofs.Common.{◌≡◌, ℕ, zero, suc, ◌+◌, ◌≤◌, ◌<◌, ◌^◌, arith, refl, sym, ap, ◌∙◌, subst, true, false, List, [], ◌∷◌, length, drop, slice_get, Option, None, Some, is_some}
+use Rattle.std.proofs.Common.{◌≡◌, ℕ, zero, suc, ◌<◌, ◌^◌, arith, refl, sym, ap, subst, true, false, List, [], ◌∷◌, drop, slice_get, None, is_some}
 use Rattle.std.proofs.lemmas.Bool.{false≢true}
 use Rattle.bus_core.specs.declared.operation.BusEntry.{BusEntry}
 use Rattle.bus_core.specs.Operation.{IsSetBits}
 use Rattle.verbs_types.specs.declared.call.Call.{Call}
-use Rattle.verbs_types.specs.declared.call.Call.TheVariants.{Post, Recv, Poll, Drain}
 use Rattle.verbs_types.specs.declared.declaration.Lines.{Lines}
-use Rattle.verbs_types.specs.declared.entry.What.{What}
-use Rattle.verbs_types.specs.declared.completion.Queue.{Queue}
+use Rattle.verbs_rules.specs.Shape.{Shape, Posts, Takes, shape_of}
 use Rattle.actor_map.specs.Sizes.{words_of}
 use Rattle.object_places.specs.declared.ended.TheConstants.{ENDED_WORD}
 use Rattle.object_places.specs.Objects.{Ends}
 use Rattle.actor_rules.specs.Calls.{MayCall, after_call, call_says, call_sees}
-use Rattle.thread_actor.specs.Stands.{IsThread, IsAtWork}
-use Rattle.thread_actor.specs.Turn.{ThreadTurn, IsNoteOf, marked}
+use Rattle.thread_actor.specs.Stands.{IsThread, IsAtWork, IsWorkIn}
+use Rattle.thread_actor.specs.Turn.{IsNoteOf, marked}
 use Rattle.thread_actor.specs.View.{ThreadView, thread_of, calls_left, left_of}
 use Rattle.thread_actor.proofs.PostTurns.{Goes}
 use Rattle.thread_actor.proofs.Rising.{weaken_poster, weaken_host}
@@ -63,9 +61,10 @@ end_goes v e stands going past sets = record {
   left : calls_left v ≡ []
   left = ap (left_of v.taken) (drop_past v.program v.finished past)
 
+  work_in : (shape : Shape) → IsWorkIn v shape → IsWorkIn (ended v) shape
+  work_in (Posts queue items) h = record { side = h.side; given = h.given }
+  work_in (Takes cq taking) h = h
+
   work : (calls : List Call) → IsAtWork v calls → IsAtWork (ended v) calls
   work [] h = h
-  work (Post qp requests ∷ rest) h = record { side = h.side; given = h.given }
-  work (Recv qp receives ∷ rest) h = record { side = h.side; given = h.given }
-  work (Poll cq most ∷ rest) h = h
-  work (Drain cq count ∷ rest) h = h
+  work (call ∷ rest) h = work_in (shape_of call) h

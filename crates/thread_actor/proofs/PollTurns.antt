@@ -1,24 +1,22 @@
 -- A turn of a thread in a call that takes completions.
-use Rattle.std.proofs.Common.{◌≡◌, ◌≢◌, ◌⊎◌, inl, inr, ℕ, zero, suc, ◌+◌, ◌-◌, ◌≤◌, ◌<◌, ◌==◌, nat_le, nat_lt, arith, refl, sym, ap, ◌∙◌, subst, true, false, Bool, if◌then◌else◌, List, [], ◌∷◌, length, map, drop, slice_get, Option, None, Some, IsSome, is_some, IsTrue}
+use Rattle.std.proofs.Common.{◌≡◌, ◌≢◌, inl, inr, ℕ, ◌+◌, ◌-◌, ◌≤◌, ◌<◌, ◌==◌, nat_le, nat_lt, arith, refl, sym, ap, ◌∙◌, subst, true, false, Bool, if◌then◌else◌, List, [], ◌∷◌, length, drop, slice_get, Option, None, Some, IsSome, is_some}
 use Rattle.std.proofs.Math.Path.{fun_ext}
 use Rattle.std.proofs.lemmas.Bool.{cases_Bool, false≢true}
 use Rattle.std.proofs.lemmas.Bool.Decides.{nat_tests, eqb_tells}
-use Rattle.arrayvec.specs.ArrayVec.{ArrayVec, array_vec_len}
 use Rattle.bus_core.specs.declared.operation.BusEntry.{BusEntry}
 use Rattle.bus_core.specs.declared.turn.Note.{Note}
 use Rattle.bus_core.specs.declared.turn.Step.{Step}
 use Rattle.bus_core.specs.declared.turn.Step.TheVariants.{More, Gave, Done}
 use Rattle.bus_core.specs.Mark.{Marked}
 use Rattle.verbs_types.specs.declared.call.Call.{Call}
-use Rattle.verbs_types.specs.declared.call.Call.TheVariants.{Post, Recv, Poll, Drain}
+use Rattle.verbs_types.specs.declared.call.Call.TheVariants.{Poll, Drain}
 use Rattle.verbs_types.specs.declared.completion.Completion.{Completion}
 use Rattle.verbs_types.specs.declared.completion.Queue.{Queue}
 use Rattle.verbs_types.specs.declared.completion.Queue.TheVariants as queues
 use Rattle.verbs_types.specs.declared.declaration.Lines.{Lines}
-use Rattle.verbs_types.specs.declared.entry.What.{What}
+use Rattle.verbs_rules.specs.Shape.{Shape, Posts, Takes, shape_of}
 use Rattle.actor_map.specs.Sizes.{words_of}
 use Rattle.counted_ring.specs.Law.{fresh_poster}
-use Rattle.counted_ring.specs.Poster.{Poster}
 use Rattle.object_places.specs.Apart.{ArePlaced}
 use Rattle.object_places.specs.Objects.{Mark, Object, Completions, Sends, Receives, Lives}
 use Rattle.provider_post.specs.Side.{PostView}
@@ -34,10 +32,10 @@ use Rattle.provider_poll.specs.Poll.{PollView, LiesWithin}
 use Rattle.provider_poll.specs.Rule.{PollPlace, PollRule, PollMark, MayPollSide}
 use Rattle.provider_poll.specs.RuleStep.{poll_side_step, after_poll_side}
 use Rattle.provider_poll.proofs.Sides.{stays_within}
-use Rattle.actor_rules.specs.Calls.{MayThread, MayCall, after_thread, after_call, thread_says, call_says, call_sees}
+use Rattle.actor_rules.specs.Calls.{MayCall, after_call, call_says, call_sees}
 use Rattle.actor_rules.specs.Family.{put_number}
 use Rattle.actor_rules.specs.Polling as rules
-use Rattle.actor_rules.specs.Polling.{MayPoll, poll_now, poll_mark, polled, poll_says, poll_sees, drain_says, took_some, given_after, given_with, is_loading, load_says, store_says, calls_after_poll, calls_after_drain, drain_left}
+use Rattle.actor_rules.specs.Polling.{MayPoll, poll_now, poll_mark, polled, poll_says, poll_sees, took_some, given_after, given_with, is_loading, load_says, store_says, calls_after_poll, calls_after_drain, drain_left}
 use Rattle.actor_rules.specs.Thread.{Thread, poll_place, queue_start, fresh_poll}
 use Rattle.thread_actor.specs.declared.polls.Polled.{Polled}
 use Rattle.thread_actor.specs.declared.progress.Progress.{Progress}
@@ -46,7 +44,7 @@ use Rattle.thread_actor.specs.Calls.{CanCall, object_of}
 use Rattle.thread_actor.specs.Polls.{GoesOn, begun, begun_at, taken_by, note_at, note_in_drain}
 use Rattle.thread_actor.specs.Sides.{SidesView, post_side, poll_side, IfThere}
 use Rattle.thread_actor.specs.Small.{IsBelow, IsPosterBelow, IsHostBelow}
-use Rattle.thread_actor.specs.Stands.{IsThread, IsPostSide, IsPollSide, PostRests, Rests, OthersRest, IsTaking, IsPolling, IsPollWork, IsAtWork, HasSide}
+use Rattle.thread_actor.specs.Stands.{IsThread, IsPostSide, IsPollSide, PostRests, Rests, OthersRest, IsPolling, IsPollWork, IsAtWork, HasSideIn}
 use Rattle.thread_actor.specs.Turn.{IsNoteOf, ThreadTurn, marked}
 use Rattle.thread_actor.specs.View.{ThreadView, thread_of, calls_left, left_of, posting_in, poster_in, poll_in}
 use Rattle.thread_actor.proofs.Places.{MovesPoll, drop_there}
@@ -191,7 +189,7 @@ module _ (v : ThreadView) (sides : SidesView) (call now : Call) (cq most : ℕ) 
 
   kept : KeepsSides v sides
   kept = record {
-    has = has;
+    has = λ other h. has (shape_of other) h;
     posts = λ queue. subst (IfThere (IsPostSide v.lines queue)) (sym (moves.posts queue)) (stands.posts queue);
     polls = polls;
   } where
@@ -213,11 +211,9 @@ module _ (v : ThreadView) (sides : SidesView) (call now : Call) (cq most : ℕ) 
       | inr apart ↦ subst (λ (o : Option PollView). IsSome o) (sym (moves.others other apart.1)) h
     ]
 
-    has : (other : Call) → HasSide v.sides other → HasSide sides other
-    has (Post qp requests) h = subst (λ (o : Option PostView). IsSome o) (sym (moves.posts (queues.Send qp))) h
-    has (Recv qp receives) h = subst (λ (o : Option PostView). IsSome o) (sym (moves.posts (queues.Recv qp))) h
-    has (Poll other most') h = some other h
-    has (Drain other count) h = some other h
+    has : (shape : Shape) → HasSideIn v.sides shape → HasSideIn sides shape
+    has (Posts queue items) h = subst (λ (o : Option PostView). IsSome o) (sym (moves.posts queue)) h
+    has (Takes other taking) h = some other h
 
   -- every other side rests as before
   elsewhere : (o : Object) → o ≢ Completions cq → Rests sides o

@@ -1,22 +1,21 @@
 -- A turn of a thread in a call that posts.
-use Rattle.std.proofs.Common.{◌≡◌, ◌≢◌, ◌⊎◌, inl, inr, ℕ, zero, suc, ◌+◌, ◌-◌, ◌≤◌, ◌<◌, ◌==◌, ◌^◌, arith, refl, sym, ap, ◌∙◌, subst, true, false, Bool, not, if◌then◌else◌, List, [], ◌∷◌, length, map, drop, slice_get, Option, None, Some, IsSome, is_some, unwrap_or, IsTrue}
-use Rattle.std.specs.List.{AllByRecursion}
+use Rattle.std.proofs.Common.{◌≡◌, ◌≢◌, inl, inr, ℕ, ◌+◌, ◌≤◌, ◌<◌, arith, refl, sym, ap, ◌∙◌, subst, true, false, Bool, not, List, ◌∷◌, length, map, drop, slice_get, Option, None, Some, IsSome, is_some, IsTrue}
 use Rattle.std.proofs.lemmas.Bool.{cases_Bool, false≢true}
 use Rattle.bus_core.specs.declared.operation.BusEntry.{BusEntry}
 use Rattle.bus_core.specs.declared.turn.Note.{Note}
 use Rattle.bus_core.specs.Mark.{Marked}
 use Rattle.verbs_types.specs.declared.call.Call.{Call}
-use Rattle.verbs_types.specs.declared.call.Call.TheVariants.{Post, Recv, Poll, Drain}
+use Rattle.verbs_types.specs.declared.call.Call.TheVariants.{Post, Recv}
 use Rattle.verbs_types.specs.declared.completion.Completion.{Completion}
 use Rattle.verbs_types.specs.declared.completion.Queue.{Queue}
 use Rattle.verbs_types.specs.declared.completion.Queue.TheVariants as queues
 use Rattle.verbs_types.specs.declared.declaration.Lines.{Lines}
-use Rattle.verbs_types.specs.declared.entry.What.{What}
 use Rattle.verbs_types.specs.declared.request.Item.{Item}
 use Rattle.verbs_types.specs.declared.request.Item.TheVariants.{Request as TheRequest, Receive as TheReceive}
 use Rattle.verbs_types.specs.declared.request.Receive.{Receive}
 use Rattle.verbs_types.specs.declared.request.Request.{Request}
 use Rattle.verbs_types.specs.Lines.{is_declared}
+use Rattle.verbs_rules.specs.Shape.{Shape, Posts, Takes, shape_of}
 use Rattle.actor_map.specs.Sizes.{words_of}
 use Rattle.counted_ring.specs.declared.place.WqPlace.{WqPlace}
 use Rattle.counted_ring.specs.Place as place
@@ -32,15 +31,14 @@ use Rattle.provider_poll.specs.declared.state.PollState.TheVariants as states
 use Rattle.provider_poll.specs.Poll.{PollView}
 use Rattle.actor_rules.specs.Thread.{Thread, queue_place}
 use Rattle.actor_rules.specs.Posting.{MayPost, on_queue, post_now, after_post as rule_after, calls_after_post, post_says, post_sees}
-use Rattle.actor_rules.specs.Calls.{MayThread, MayCall, after_thread, after_call, thread_says, call_says, call_sees}
+use Rattle.actor_rules.specs.Calls.{MayThread, MayCall, after_call, call_says, call_sees}
 use Rattle.thread_actor.specs.declared.posts.Posted.{Posted}
 use Rattle.thread_actor.specs.declared.progress.Progress.{Progress}
 use Rattle.thread_actor.specs.Progress.{after_post}
 use Rattle.thread_actor.specs.Calls.{CanCall, object_of}
 use Rattle.thread_actor.specs.Posts.{GoesOn, begun, is_over}
-use Rattle.thread_actor.specs.Sides.{SidesView, post_side, poll_side, IfThere}
-use Rattle.thread_actor.specs.Small.{IsBelow}
-use Rattle.thread_actor.specs.Stands.{IsThread, IsPostSide, IsPollSide, PostRests, Rests, OthersRest, IsPosting, IsPostWork, IsAtWork, HasSide}
+use Rattle.thread_actor.specs.Sides.{SidesView, post_side, IfThere}
+use Rattle.thread_actor.specs.Stands.{IsThread, IsPostSide, IsPollSide, PostRests, Rests, OthersRest, IsPosting, IsPostWork, IsAtWork, HasSideIn}
 use Rattle.thread_actor.specs.Turn.{IsNoteOf, ThreadTurn, marked}
 use Rattle.thread_actor.specs.View.{ThreadView, thread_of, calls_left, left_of, posting_in, call_in}
 use Rattle.thread_actor.proofs.Places.{MovesPost, drop_there}
@@ -152,7 +150,7 @@ module _ (s s' : SidesView) (queue : Queue) (before after : PostView) (moves : M
 keeps : (v : ThreadView) (new : SidesView) (queue : Queue) (before after : PostView) → IsThread v → MovesPost v.sides new queue before after
     → after.poster.place ≡ before.poster.place → after.queue ≡ before.queue → KeepsSides v new
 keeps v new queue before after stands moves place_stays queue_stays = record {
-  has = has;
+  has = λ other h. has (shape_of other) h;
   posts = posts;
   polls = λ cq. subst (IfThere (IsPollSide v.lines cq)) (sym (moves.polls cq)) (stands.polls cq);
 } where
@@ -178,11 +176,9 @@ keeps v new queue before after stands moves place_stays queue_stays = record {
     | inr differ ↦ subst (λ (o : Option PostView). IsSome o) (sym (moves.others q differ)) h
   ]
 
-  has : (call : Call) → HasSide v.sides call → HasSide new call
-  has (Post qp requests) h = some (queues.Send qp) h
-  has (Recv qp receives) h = some (queues.Recv qp) h
-  has (Poll cq most) h = subst (λ (o : Option PollView). IsSome o) (sym (moves.polls cq)) h
-  has (Drain cq count) h = subst (λ (o : Option PollView). IsSome o) (sym (moves.polls cq)) h
+  has : (shape : Shape) → HasSideIn v.sides shape → HasSideIn new shape
+  has (Posts q items) h = some q h
+  has (Takes cq taking) h = subst (λ (o : Option PollView). IsSome o) (sym (moves.polls cq)) h
 
 none_left : (o : Option post.Call) (next : post.Call) → is_over (answer_with o next) ≡ true → o ≡ None
 none_left None next is = refl

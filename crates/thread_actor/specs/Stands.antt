@@ -1,16 +1,15 @@
 -- What holds of a thread between operations.
-use Rattle.std.specs.Prelude.{ℕ, ◌≡◌, ◌≢◌, ◌<◌, ◌≤◌, ◌^◌, IsTrue, IsSome, List, [], ◌∷◌, length, map, Option, None, Some}
+use Rattle.std.specs.Prelude.{ℕ, ◌≡◌, ◌≢◌, ◌<◌, ◌≤◌, ◌^◌, IsTrue, IsSome, List, [], ◌∷◌, length, None}
 use Rattle.std.specs.List.{AllByRecursion}
 use Rattle.arrayvec.specs.ArrayVec.{ArrayVec, array_vec_len}
 use Rattle.verbs_types.specs.declared.call.Call.{Call}
-use Rattle.verbs_types.specs.declared.call.Call.TheVariants.{Post, Recv, Poll, Drain}
 use Rattle.verbs_types.specs.declared.completion.Completion.{Completion}
 use Rattle.verbs_types.specs.declared.completion.Queue.{Queue}
 use Rattle.verbs_types.specs.declared.completion.Queue.TheVariants as queues
 use Rattle.verbs_types.specs.declared.declaration.Lines.{Lines}
 use Rattle.verbs_types.specs.declared.request.Item.{Item}
-use Rattle.verbs_types.specs.declared.request.Item.TheVariants.{Request as TheRequest, Receive as TheReceive}
 use Rattle.verbs_types.specs.Lines.{is_declared}
+use Rattle.verbs_rules.specs.Shape.{Shape, Posts, Takes, shape_of, most_of}
 use Rattle.actor_map.specs.Sizes.{words_of}
 use Rattle.object_places.specs.Objects.{Object, Completions, Sends, Receives}
 use Rattle.object_places.specs.Places.{IsWithin}
@@ -77,19 +76,21 @@ pub record IsPostWork (v : ThreadView) (queue : Queue) (items : List Item) : Typ
   pub given : v.given ≡ []
 
 -- how far the call under way has come
+abbrev pub IsWorkIn : ThreadView → Shape → Type 0
+IsWorkIn v (Posts queue items) = IsPostWork v queue items
+IsWorkIn v (Takes cq taking) = IsPollWork v cq (most_of taking)
+
 abbrev pub IsAtWork : ThreadView → List Call → Type 0
 IsAtWork v [] = v.given ≡ []
-IsAtWork v (Post qp requests ∷ rest) = IsPostWork v (queues.Send qp) (map TheRequest requests)
-IsAtWork v (Recv qp receives ∷ rest) = IsPostWork v (queues.Recv qp) (map TheReceive receives)
-IsAtWork v (Poll cq most ∷ rest) = IsPollWork v cq most
-IsAtWork v (Drain cq count ∷ rest) = IsPollWork v cq 1
+IsAtWork v (call ∷ rest) = IsWorkIn v (shape_of call)
 
 -- the side that the call needs is there
+abbrev pub HasSideIn : SidesView → Shape → Type 0
+HasSideIn s (Posts queue items) = IsSome (post_side s queue)
+HasSideIn s (Takes cq taking) = IsSome (poll_side s cq)
+
 abbrev pub HasSide : SidesView → Call → Type 0
-HasSide s (Post qp requests) = IsSome (post_side s (queues.Send qp))
-HasSide s (Recv qp receives) = IsSome (post_side s (queues.Recv qp))
-HasSide s (Poll cq most) = IsSome (poll_side s cq)
-HasSide s (Drain cq count) = IsSome (poll_side s cq)
+HasSide s call = HasSideIn s (shape_of call)
 
 pub record IsThread (v : ThreadView) : Type 0 where
   pub declared : IsTrue (is_declared v.lines)

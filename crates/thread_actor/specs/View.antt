@@ -1,11 +1,10 @@
 -- What a thread is to a caller, and what the rules of threads see of it.
 use Rattle.std.specs.Prelude.{ℕ, ◌-◌, Bool, List, [], ◌∷◌, drop, Option, None, Some}
 use Rattle.verbs_types.specs.declared.call.Call.{Call}
-use Rattle.verbs_types.specs.declared.call.Call.TheVariants.{Post, Recv, Poll, Drain}
+use Rattle.verbs_types.specs.declared.call.Call.TheVariants.{Drain}
 use Rattle.verbs_types.specs.declared.completion.Completion.{Completion}
-use Rattle.verbs_types.specs.declared.completion.Queue.{Queue}
-use Rattle.verbs_types.specs.declared.completion.Queue.TheVariants as queues
 use Rattle.verbs_types.specs.declared.declaration.Lines.{Lines}
+use Rattle.verbs_rules.specs.Shape.{Shape, Posts, shape_of}
 use Rattle.counted_ring.specs.Poster.{Poster}
 use Rattle.counted_ring.specs.Law.{fresh_poster}
 use Rattle.provider_post.specs.declared.call.Call as post
@@ -54,10 +53,13 @@ abbrev pub calls_left : ThreadView → List Call
 calls_left v = left_of v.taken (drop v.finished v.program)
 
 -- how far the post has come that is under way
+abbrev pub posting_of : ThreadView → Shape → Option post.Call
+posting_of v (Posts queue items) = call_in (post_side v.sides queue)
+posting_of v _ = None
+
 abbrev pub posting_in : ThreadView → List Call → Option post.Call
-posting_in v (Post qp requests ∷ rest) = call_in (post_side v.sides (queues.Send qp))
-posting_in v (Recv qp receives ∷ rest) = call_in (post_side v.sides (queues.Recv qp))
-posting_in v _ = None
+posting_in v [] = None
+posting_in v (call ∷ rest) = posting_of v (shape_of call)
 
 -- the thread as its rule sees it
 abbrev pub thread_of : ThreadView → Thread

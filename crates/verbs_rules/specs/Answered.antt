@@ -3,15 +3,13 @@ use Rattle.std.specs.Prelude.{ℕ, ◌≡◌, ◌<◌, ◌==◌, if◌then◌els
 use Rattle.std.specs.List.{flat_map}
 use Rattle.bus_core.specs.Follow.{Follows}
 use Rattle.verbs_types.specs.declared.request.Item.{Item}
-use Rattle.verbs_types.specs.declared.request.Item.TheVariants.{Request as TheRequest, Receive as TheReceive}
 use Rattle.verbs_types.specs.declared.completion.Queue.{Queue}
-use Rattle.verbs_types.specs.declared.completion.Queue.TheVariants.{Send, Recv}
 use Rattle.verbs_types.specs.declared.completion.Completion.{Completion}
 use Rattle.verbs_types.specs.declared.call.Call.{Call}
-use Rattle.verbs_types.specs.declared.call.Call.TheVariants.{Post as PostCall, Recv as RecvCall, Poll as PollCall, Drain}
 use Rattle.verbs_types.specs.declared.entry.Entry.{Entry}
 use Rattle.verbs_types.specs.declared.entry.What.{What}
 use Rattle.verbs_types.specs.declared.entry.What.TheVariants.{Post, PostFull, Poll, Retire, Ack}
+use Rattle.verbs_rules.specs.Shape.{Shape, Posts, Takes, Once, Until, shape_of}
 
 -- an entry that a thread owes
 pub data Due : Type 0 where
@@ -26,12 +24,15 @@ pub data Due : Type 0 where
   Retiring : (queue : Queue) → Due
   Acking : (cq : ℕ) → Due
 
+-- what a call of this shape owes
+abbrev pub due_in : Shape → List Due
+due_in (Posts queue items) = Posting queue items ∷ []
+due_in (Takes cq (Once most)) = Polling cq most ∷ []
+due_in (Takes cq (Until count)) = replicate count (Draining cq)
+
 -- what a call owes
 abbrev pub due_by : Call → List Due
-due_by (PostCall qp requests) = Posting (Send qp) (map TheRequest requests) ∷ []
-due_by (RecvCall qp receives) = Posting (Recv qp) (map TheReceive receives) ∷ []
-due_by (PollCall cq most) = Polling cq most ∷ []
-due_by (Drain cq count) = replicate count (Draining cq)
+due_by call = due_in (shape_of call)
 
 -- the entry is what was owed
 abbrev pub Answers : Due → What → Type 0

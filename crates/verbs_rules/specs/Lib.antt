@@ -6,6 +6,7 @@ pub mod Rules
 pub mod Rows
 pub mod Step
 pub mod Legal
+pub mod Shape
 pub mod Answered
 pub mod Proper
 pub mod Sane
