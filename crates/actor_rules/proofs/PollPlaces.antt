@@ -1,6 +1,6 @@
 -- The places of the queue pairs that complete into a queue.
 use Rattle.std.proofs.Common.{◌≡◌, ℕ, zero, suc, ◌+◌, ◌<◌, ◌-◌, ◌==◌, refl, sym, ap, ◌∙◌, arith, Bool, true, false, cond, not, List, [], ◌∷◌, length, map, filter, get_or, slice_get, position, unwrap_or, is_some, Option, Some, nat_lt}
-use Rattle.std.specs.List.{enumerate_from, position_or_len, prefix_len}
+use Rattle.std.specs.List.{position_or_len, prefix_len}
 use Rattle.std.specs.Option.{option_map_or}
 use Rattle.std.proofs.lemmas.Bool.{eq-eqb, eqb-true, lt-ltb, le-leb, false≢true, and_from}
 use Rattle.std.proofs.lemmas.List.Quantifiers.{position-Some}
@@ -12,10 +12,12 @@ use Rattle.verbs_types.specs.Lines.{is_among}
 use Rattle.verbs_rules.specs.Start.{first_state, no_pair}
 use Rattle.verbs_laws.proofs.Families.{among}
 use Rattle.device_engine.specs.State.{send_cq}
-use Rattle.actor_rules.specs.Thread.{completes_into, completing}
+use Rattle.provider_poll.specs.Fresh.{completes_to, senders}
+use Rattle.provider_poll.proofs.Ranges.{from_least, below_most, passes, is_there}
+use Rattle.actor_rules.specs.Thread.{completes_into}
 use Rattle.actor_rules.specs.Polling.{place_in}
 use Rattle.actor_rules.specs.Completions.{HasPlace}
-use Rattle.object_places.specs.Places.{send_of}
+use Rattle.object_places.specs.Places.{no_qp, qp_line, send_of}
 use Rattle.provider_poll.specs.Rule.{QueuePlace}
 
 module _ {X : Type 0} (p : X → Bool) where
@@ -44,56 +46,14 @@ at_position xs n k is =
     let found = position-Some (λ m. m == n) xs k 0 is in
     slice_get-get_or xs k 0 found.0 ∙ ap (λ m. Some m) (eqb-true (get_or xs k 0) n found.1)
 
-abbrev pub numbers_from : ℕ → ℕ → List QpLine → List ℕ
-numbers_from cq k lines = map (λ (p : ℕ × QpLine). FIRST_QP + p.0) (filter (completes_into cq) (enumerate_from k lines))
-
--- the line of a queue pair
-pub record HasLine (cq k : ℕ) (lines : List QpLine) (qp : ℕ) : Type 0 where
-  pub place : ℕ
-  pub line : QpLine
-  pub number : qp ≡ FIRST_QP + (k + place)
-  pub there : slice_get lines place ≡ Some line
-  pub home : line.send_cq ≡ cq
-
-module _ (cq : ℕ) where
-  later : (k : ℕ) (line : QpLine) (lines : List QpLine) (qp : ℕ) → HasLine cq (k + 1) lines qp → HasLine cq k (line ∷ lines) qp
-  later k line lines qp h = record { place = suc h.place; line = h.line; number = omega (arith, h.number); there = h.there; home = h.home }
-
-  pub listed : (k : ℕ) (lines : List QpLine) (i qp : ℕ) → slice_get (numbers_from cq k lines) i ≡ Some qp → HasLine cq k lines qp
-  listed k [] zero qp there = absurd (false≢true (ap is_some there))
-  listed k [] (suc i) qp there = absurd (false≢true (ap is_some there))
-  listed k (line ∷ lines) i qp there = by (λ j h. listed (k + 1) lines j qp h) (line.send_cq == cq) i refl there
-    where
-      by : ((j : ℕ) → slice_get (numbers_from cq (k + 1) lines) j ≡ Some qp → HasLine cq (k + 1) lines qp) → (b : Bool) (i : ℕ) → (line.send_cq == cq) ≡ b → slice_get (map (λ (p : ℕ × QpLine). FIRST_QP + p.0) (cond b ((k, line) ∷ filter (completes_into cq) (enumerate_from (k + 1) lines)) (filter (completes_into cq) (enumerate_from (k + 1) lines)))) i ≡ Some qp → HasLine cq k (line ∷ lines) qp
-      by f true zero e h = record { place = 0; line = line; number = sym (ap (λ o. unwrap_or o 0) h) ∙ (let same : FIRST_QP + k ≡ FIRST_QP + (k + 0) = omega arith in same); there = refl; home = eqb-true line.send_cq cq e }
-      by f true (suc i) e h = later k line lines qp (f i h)
-      by f false i e h = later k line lines qp (f i h)
-
-  record IsListed (k : ℕ) (lines : List QpLine) (qp : ℕ) : Type 0 where
-    place : ℕ
-    there : slice_get (numbers_from cq k lines) place ≡ Some qp
-
-  has_place : (k : ℕ) (lines : List QpLine) (qp : ℕ) (place : ℕ) (line : QpLine) → qp ≡ FIRST_QP + (k + place) → slice_get lines place ≡ Some line → line.send_cq ≡ cq → IsListed k lines qp
-  has_place k [] qp zero line number there home = absurd (false≢true (ap is_some there))
-  has_place k [] qp (suc place) line number there home = absurd (false≢true (ap is_some there))
-  has_place k (x ∷ lines) qp zero line number there home =
-      let here : (x.send_cq == cq) ≡ true = eq-eqb x.send_cq cq (ap (λ o. (unwrap_or o x).send_cq) there ∙ home) in
-      let same : FIRST_QP + k ≡ qp = omega (arith, number) in
-      record { place = 0; there = ap (λ b. slice_get (map (λ (p : ℕ × QpLine). FIRST_QP + p.0) (cond b ((k, x) ∷ filter (completes_into cq) (enumerate_from (k + 1) lines)) (filter (completes_into cq) (enumerate_from (k + 1) lines)))) 0) here ∙ ap (λ n. Some n) same }
-  has_place k (x ∷ lines) qp (suc place) line number there home = by (x.send_cq == cq) refl (has_place (k + 1) lines qp place line (omega (arith, number)) there home)
-    where
-      by : (b : Bool) → (x.send_cq == cq) ≡ b → IsListed (k + 1) lines qp → IsListed k (x ∷ lines) qp
-      by true e h = record { place = suc h.place; there = ap (λ b. slice_get (map (λ (p : ℕ × QpLine). FIRST_QP + p.0) (cond b ((k, x) ∷ filter (completes_into cq) (enumerate_from (k + 1) lines)) (filter (completes_into cq) (enumerate_from (k + 1) lines)))) (suc h.place)) e ∙ h.there }
-      by false e h = record { place = h.place; there = ap (λ b. slice_get (map (λ (p : ℕ × QpLine). FIRST_QP + p.0) (cond b ((k, x) ∷ filter (completes_into cq) (enumerate_from (k + 1) lines)) (filter (completes_into cq) (enumerate_from (k + 1) lines)))) h.place) e ∙ h.there }
-
-pub place_of_position : (d : Lines) (cq qp : ℕ) → position (λ n. n == qp) (completing d cq) ≡ Some (place_in d cq qp) → HasPlace d cq qp
+pub place_of_position : (d : Lines) (cq qp : ℕ) → position (λ n. n == qp) (senders d cq) ≡ Some (place_in d cq qp) → HasPlace d cq qp
 place_of_position d cq qp is =
-    let there = at_position (completing d cq) qp (place_in d cq qp) is in
-    record { is = is; there = there; inside = slice_get_within (completing d cq) (place_in d cq qp) qp there }
+    let there = at_position (senders d cq) qp (place_in d cq qp) is in
+    record { is = is; there = there; inside = slice_get_within (senders d cq) (place_in d cq qp) qp there }
 
 -- queue pairs of one place are one
 pub same_pair : (d : Lines) (cq qp other : ℕ) → HasPlace d cq qp → HasPlace d cq other → place_in d cq qp ≡ place_in d cq other → qp ≡ other
-same_pair d cq qp other h g same = ap (λ o. unwrap_or o qp) (sym h.there ∙ ap (λ i. slice_get (completing d cq) i) same ∙ g.there)
+same_pair d cq qp other h g same = ap (λ o. unwrap_or o qp) (sym h.there ∙ ap (λ i. slice_get (senders d cq) i) same ∙ g.there)
 
 pair_line : (d : Lines) (qp place : ℕ) (line : QpLine) → qp ≡ FIRST_QP + place → slice_get d.qps place ≡ Some line → (is_among FIRST_QP (length d.qps) qp ≡ true) × (send_cq d qp ≡ line.send_cq)
 pair_line d qp place line number there =
@@ -109,20 +69,23 @@ pair_line d qp place line number there =
 -- who has a place lives, and completes into the queue
 pub living_by_place : (d : Lines) (cq qp : ℕ) → HasPlace d cq qp → (is_among FIRST_QP (length d.qps) qp ≡ true) × (send_cq d qp ≡ cq)
 living_by_place d cq qp h =
-    let l = listed cq 0 d.qps (place_in d cq qp) qp h.there in
-    let p = pair_line d qp l.place l.line (omega (arith, l.number)) l.there in
-    (p.0, p.1 ∙ l.home)
+    let test : ℕ → Bool = completes_to d cq in
+    let low = from_least test FIRST_QP (length d.qps) (place_in d cq qp) qp h.there in
+    let high = below_most test FIRST_QP (length d.qps) (place_in d cq qp) qp h.there in
+    let home : (qp_line d qp).send_cq ≡ cq = eqb-true (qp_line d qp).send_cq cq (passes test FIRST_QP (length d.qps) (place_in d cq qp) qp h.there) in
+    let there : slice_get d.qps (qp - FIRST_QP) ≡ Some (qp_line d qp) = slice_get-get_or d.qps (qp - FIRST_QP) no_qp (omega (arith, low, high)) in
+    let p = pair_line d qp (qp - FIRST_QP) (qp_line d qp) (omega (arith, low)) there in
+    (p.0, p.1 ∙ home)
 
 -- and the other way round
 pub place_by_living : (d : Lines) (cq qp : ℕ) → is_among FIRST_QP (length d.qps) qp ≡ true → send_cq d qp ≡ cq → HasPlace d cq qp
 place_by_living d cq qp lives home =
     let inside = among FIRST_QP (length d.qps) qp lives in
-    let none : QpLine = get_or d.qps (qp - FIRST_QP) (record { name = []; pd = 0; send_cq = 0; recv_cq = 0; send_log = 0; recv_log = 0; segments = 0; start = 0 }) in
-    let there : slice_get d.qps (qp - FIRST_QP) ≡ Some none = slice_get-get_or d.qps (qp - FIRST_QP) _ inside.1 in
-    let number : qp ≡ FIRST_QP + (qp - FIRST_QP) = omega (arith, inside.0) in
-    let line = pair_line d qp (qp - FIRST_QP) none number there in
-    let l = has_place cq 0 d.qps qp (qp - FIRST_QP) none (omega (arith, inside.0)) there (sym line.1 ∙ home) in
-    place_of_position d cq qp (position_there (λ n. n == qp) (completing d cq) l.place qp l.there (eq-eqb qp qp refl))
+    let there : slice_get d.qps (qp - FIRST_QP) ≡ Some (qp_line d qp) = slice_get-get_or d.qps (qp - FIRST_QP) no_qp inside.1 in
+    let line = pair_line d qp (qp - FIRST_QP) (qp_line d qp) (omega (arith, inside.0)) there in
+    let good : completes_to d cq qp ≡ true = eq-eqb (qp_line d qp).send_cq cq (sym line.1 ∙ home) in
+    let found = is_there (completes_to d cq) FIRST_QP (length d.qps) qp inside.0 (omega (arith, inside.0, inside.1)) good in
+    place_of_position d cq qp (position_there (λ n. n == qp) (senders d cq) found.0 qp found.1 (eq-eqb qp qp refl))
 
 -- their places, with where each queue lies
 abbrev pub places_of : Lines → List ℕ → List QueuePlace

@@ -25,7 +25,7 @@ use Rattle.provider_poll.specs.declared.state.PollState.TheVariants as states
 use Rattle.provider_poll.specs.Rule.{PollRule}
 use Rattle.device_engine.specs.Entry.{nop_cqe}
 use Rattle.device_engine.specs.State.{send_cq}
-use Rattle.actor_rules.specs.Thread.{completing}
+use Rattle.provider_poll.specs.Fresh.{senders}
 use Rattle.actor_rules.specs.Polling.{place_in}
 use Rattle.actor_rules.specs.Matching.{Match}
 use Rattle.actor_rules.specs.Objects.{Lists, retirer_in}
@@ -42,9 +42,9 @@ IsCompletion l = IsCompletionOf l.queues
 
 -- the place of a queue pair that completes into the queue
 pub record HasPlace (d : Lines) (cq qp : ℕ) : Type 0 where
-  pub is : position (λ n. n == qp) (completing d cq) ≡ Some (place_in d cq qp)
-  pub there : slice_get (completing d cq) (place_in d cq qp) ≡ Some qp
-  pub inside : place_in d cq qp < length (completing d cq)
+  pub is : position (λ n. n == qp) (senders d cq) ≡ Some (place_in d cq qp)
+  pub there : slice_get (senders d cq) (place_in d cq qp) ≡ Some qp
+  pub inside : place_in d cq qp < length (senders d cq)
 
 -- how many completions the poll under way holds, of which no entry tells yet
 abbrev pub held : PollState → ℕ
@@ -86,7 +86,7 @@ pub record IsLookedUpIn (d : Lines) (cq : ℕ) (words_of : Queue → counted.Que
 -- an end that is to be stored was found, and its queue is that of a queue pair that completes here
 pub record IsPending (d : Lines) (cq : ℕ) (retirers : List Retirer) (e : End) : Type 0 where
   pub qp : ℕ
-  pub place : position (λ n. n == qp) (completing d cq) ≡ Some (place_in d cq qp)
+  pub place : position (λ n. n == qp) (senders d cq) ≡ Some (place_in d cq qp)
   pub queue : e.queue ≡ place_in d cq qp
   pub found : e.end ≤ (retirer_in retirers e.queue).found
 
@@ -144,7 +144,7 @@ pub record CompletionsIn (d : Lines) (cq : ℕ) (words_of : Queue → counted.Qu
   pub reads : ReadsNext p.host
   pub shows : Shows p.host p.seen (held p.state) (produced q)
   pub poll : PollIn d cq words_of p.retirers given u.unpolled p.state
-  pub retirers : length p.retirers ≡ length (completing d cq)
+  pub retirers : length p.retirers ≡ length (senders d cq)
   pub asked : (place : ℕ) → AskedFor p.state place (retirer_in p.retirers place).asked
   pub ends : (qp : ℕ) → Lives d (Sends qp) → send_cq d qp ≡ cq → ends_of qp ≡ ends_on (place_in d cq qp) (pending p.state)
 

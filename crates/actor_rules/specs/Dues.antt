@@ -12,7 +12,8 @@ use Rattle.provider_poll.specs.declared.state.End.{End}
 use Rattle.provider_poll.specs.declared.state.PollState.{PollState}
 use Rattle.provider_poll.specs.declared.state.PollState.TheVariants as states
 use Rattle.provider_poll.specs.Rule.{PollRule}
-use Rattle.actor_rules.specs.Thread.{Thread, completing}
+use Rattle.provider_poll.specs.Fresh.{senders}
+use Rattle.actor_rules.specs.Thread.{Thread}
 
 -- what the thread of a number owes, where the threads owe this in order; they are numbered from 1
 abbrev pub dues_at : List (List Due) → ℕ → List Due
@@ -26,7 +27,7 @@ post_dues queue items (Some call) = if call.recorded then [] else if is_some cal
 
 -- the queue of an end, and what stands to be stored
 abbrev pub retiring : Lines → ℕ → End → Due
-retiring d cq end = Retiring (queues.Send (slice_index_or (completing d cq) end.queue 0))
+retiring d cq end = Retiring (queues.Send (slice_index_or (senders d cq) end.queue 0))
 
 abbrev pub store_dues : Lines → ℕ → PollState → List Due
 store_dues d cq (states.Retiring taken empty left) = map (retiring d cq) left.items ++ Acking cq ∷ []

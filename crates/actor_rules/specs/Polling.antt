@@ -21,12 +21,13 @@ use Rattle.provider_poll.specs.declared.state.PollState.TheVariants as states
 use Rattle.provider_poll.specs.declared.poll_step.PollStep.{PollStep}
 use Rattle.provider_poll.specs.Rule.{PollRule, PollMark, OnHost, OnQueue, MayPollSide}
 use Rattle.provider_poll.specs.RuleStep.{poll_side_step, after_poll_side}
-use Rattle.actor_rules.specs.Thread.{Thread, poll_place, completing}
+use Rattle.provider_poll.specs.Fresh.{poll_place, senders}
+use Rattle.actor_rules.specs.Thread.{Thread}
 use Rattle.actor_rules.specs.Family.{put_number}
 
 -- the place of a queue pair among those whose sends complete into this queue
 abbrev pub place_in : Lines → ℕ → ℕ → ℕ
-place_in d cq qp = unwrap_or (position (λ n. n == qp) (completing d cq)) 0
+place_in d cq qp = unwrap_or (position (λ n. n == qp) (senders d cq)) 0
 
 -- what an operation of a thread is to the side that polls
 abbrev pub poll_mark : Lines → ℕ → Mark → PollMark
@@ -37,7 +38,7 @@ poll_mark d cq _ = OnHost host.Foreign
 -- it is on the completion queue's words, or on those of a send queue that completes into it
 abbrev pub IsOnPolled : Lines → ℕ → Mark → Type 0
 IsOnPolled d cq (OnCompletions c mark) = c ≡ cq
-IsOnPolled d cq (OnSends qp mark) = position (λ n. n == qp) (completing d cq) ≡ Some (place_in d cq qp)
+IsOnPolled d cq (OnSends qp mark) = position (λ n. n == qp) (senders d cq) ≡ Some (place_in d cq qp)
 IsOnPolled d cq _ = ⊥
 
 -- a poll of at most `most` completions, before its first operation

@@ -1,22 +1,18 @@
 -- A thread before its next operation.
-use Rattle.std.specs.Prelude.{ℕ, zero, suc, slice_index_or, ◌+◌, ◌==◌, ◌&&◌, nat_le, nat_lt, not, Bool, List, [], Option, None, map, filter, length}
-use Rattle.std.specs.List.{enumerate_from}
+use Rattle.std.specs.Prelude.{ℕ, zero, suc, slice_index_or, ◌&&◌, nat_le, nat_lt, not, Bool, List, [], Option, None, length}
 use Rattle.verbs_types.specs.declared.call.Call.{Call}
 use Rattle.verbs_types.specs.declared.completion.Completion.{Completion}
 use Rattle.verbs_types.specs.declared.completion.Queue.{Queue}
 use Rattle.verbs_types.specs.declared.completion.Queue.TheVariants.{Send, Recv, Shared}
 use Rattle.verbs_types.specs.declared.declaration.Lines.{Lines}
-use Rattle.verbs_types.specs.declared.declaration.QpLine.{QpLine}
-use Rattle.verbs_types.specs.declared.declaration.TheConstants.{FIRST_QP}
 use Rattle.counted_ring.specs.declared.place.WqPlace.{WqPlace}
 use Rattle.counted_ring.specs.Poster.{Poster}
-use Rattle.counted_ring.specs.Law.{fresh_poster, fresh_finder}
-use Rattle.cq_pair.specs.Law.{fresh_host}
-use Rattle.object_places.specs.Places.{send_of, receive_of, completions_of, qp_line, cq_line}
+use Rattle.counted_ring.specs.Law.{fresh_poster}
+use Rattle.object_places.specs.Places.{send_of, receive_of, qp_line}
 use Rattle.object_places.specs.Objects.{Object, Lives, Sends, Receives}
 use Rattle.provider_post.specs.declared.call.Call as post
-use Rattle.provider_poll.specs.declared.state.PollState.TheVariants.{Idle}
-use Rattle.provider_poll.specs.Rule.{PollPlace, PollRule}
+use Rattle.provider_poll.specs.Fresh.{fresh_rule}
+use Rattle.provider_poll.specs.Rule.{PollRule}
 
 pub record Thread : Type 0 where
   -- the calls that are left, of which the first is under way or begins next; of a drain that is under way as many
@@ -36,17 +32,6 @@ pub record Thread : Type 0 where
 abbrev pub program_of : List (List Call) → ℕ → List Call
 program_of programs zero = []
 program_of programs (suc t) = slice_index_or programs t []
-
--- the queue pairs whose send queue completes into this queue, by rising number
-abbrev pub completes_into : ℕ → ℕ × QpLine → Bool
-completes_into cq p = p.1.send_cq == cq
-
-abbrev pub completing : Lines → ℕ → List ℕ
-completing d cq = map (λ (p : ℕ × QpLine). FIRST_QP + p.0) (filter (completes_into cq) (enumerate_from 0 d.qps))
-
--- where a completion queue lies, with those send queues
-abbrev pub poll_place : Lines → ℕ → PollPlace
-poll_place d cq = record { cq = completions_of d cq; queues = map (λ (qp : ℕ). record { number = qp; place = send_of d qp }) (completing d cq) }
 
 -- where a work queue lies; no shared receive queue can be declared yet
 abbrev pub queue_place : Lines → Queue → WqPlace
@@ -78,15 +63,6 @@ queue_start d (Send qp) = (qp_line d qp).start
 queue_start d (Recv qp) = (qp_line d qp).start
 queue_start d (Shared srq) = 0
 
--- the side of a thread that has done nothing yet
-abbrev pub fresh_poll : Lines → ℕ → PollRule
-fresh_poll d cq = record {
-  host = fresh_host (cq_line d cq).start;
-  seen = 0;
-  retirers = map (λ (qp : ℕ). fresh_finder.retirer) (completing d cq);
-  state = Idle;
-}
-
 -- the threads are numbered from 1; an actor that is no thread has ended
 abbrev pub is_thread : List (List Call) → ℕ → Bool
 is_thread programs x = nat_lt 0 x && nat_le x (length programs)
@@ -97,6 +73,6 @@ fresh_thread d programs x = record {
   posting = None;
   given = [];
   posters = λ queue. fresh_poster (queue_start d queue);
-  polls = fresh_poll d;
+  polls = fresh_rule d;
   ended = not (is_thread programs x);
 }

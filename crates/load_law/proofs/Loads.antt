@@ -39,7 +39,7 @@ use Rattle.provider_poll.specs.RuleStep.{host_step, seen_by, poll_side_step, aft
 use Rattle.provider_poll.specs.Note.{poll_note}
 use Rattle.provider_poll.specs.Stores.{storing}
 use Rattle.provider_poll.specs.PollStep.{after_look, with_completion, with_none, place_of}
-use Rattle.actor_rules.specs.Thread.{poll_place}
+use Rattle.provider_poll.specs.Fresh.{poll_place}
 use Rattle.actor_rules.specs.Polling.{place_in, given_with, load_says}
 use Rattle.actor_rules.specs.View.{View}
 use Rattle.actor_rules.specs.Matching.{Match}

@@ -28,7 +28,7 @@ use Rattle.provider_poll.specs.Rule.{PollRule, OnQueue, MayLookUp, lookup_in, fo
 use Rattle.provider_poll.specs.RuleStep.{retirer_step, poll_side_step, after_poll_side}
 use Rattle.provider_poll.specs.SendQueue.{SendView}
 use Rattle.provider_poll.specs.PollStep.{with_end, after_lookup}
-use Rattle.actor_rules.specs.Thread.{poll_place}
+use Rattle.provider_poll.specs.Fresh.{poll_place}
 use Rattle.actor_rules.specs.Polling.{place_in, given_with, load_says}
 use Rattle.actor_rules.specs.View.{View}
 use Rattle.actor_rules.specs.Objects.{Lists, retirer_in}

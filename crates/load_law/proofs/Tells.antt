@@ -22,7 +22,7 @@ use Rattle.provider_poll.specs.declared.state.End.{End}
 use Rattle.provider_poll.specs.declared.state.PollState.TheVariants as states
 use Rattle.provider_poll.specs.Rule.{PollRule}
 use Rattle.device_engine.specs.State.{send_cq}
-use Rattle.actor_rules.specs.Thread.{completing}
+use Rattle.provider_poll.specs.Fresh.{senders}
 use Rattle.actor_rules.specs.Polling.{place_in}
 use Rattle.verbs_rules.specs.Sane.{numbers_in}
 use Rattle.verbs_laws.proofs.Choices.{differs}
@@ -122,7 +122,7 @@ module _ (d : Lines) (cq most : ℕ) (v : Verbs) (placed : AllByRecursion (IsPla
       pub next : s.from + length es ≡ next_index host
       pub reads : ReadsNext host
       pub shows : Shows host seen 0 (produced (l.completions cq))
-      pub long : length rs ≡ length (completing d cq)
+      pub long : length rs ≡ length (senders d cq)
       pub none : (place : ℕ) → (retirer_in rs place).asked ≡ None
 
     abbrev pub storing_now : PollRule

@@ -18,7 +18,8 @@ use Rattle.provider_poll.specs.declared.state.End.{End}
 use Rattle.provider_poll.specs.declared.state.PollState.{PollState}
 use Rattle.provider_poll.specs.declared.state.PollState.TheVariants as states
 use Rattle.provider_poll.specs.Rule.{PollPlace, PollRule, IsNextOf, MayGoOn, MayRetireFirst, found_before}
-use Rattle.actor_rules.specs.Thread.{Thread, poll_place}
+use Rattle.provider_poll.specs.Fresh.{poll_place}
+use Rattle.actor_rules.specs.Thread.{Thread}
 use Rattle.actor_rules.specs.Polling.{IsOnPolled, MayPoll, is_loading, load_says, given_with, poll_mark, poll_now, poll_says, polled, store_says, took_some}
 
 -- Loads of a completion queue

@@ -19,7 +19,8 @@ use Rattle.provider_poll.specs.declared.state.PollState.TheVariants as states
 use Rattle.provider_poll.specs.Rule.{PollPlace, PollRule, PollMark, OnHost, OnQueue, IsNextOf, MayGoOn}
 use Rattle.actor_rules.specs.Calls.{MayCall, MayThread, after_thread}
 use Rattle.actor_rules.specs.Polling.{MayPoll as MayPollIn, begun, poll_now, poll_mark}
-use Rattle.actor_rules.specs.Thread.{Thread, fresh_thread, poll_place}
+use Rattle.provider_poll.specs.Fresh.{poll_place}
+use Rattle.actor_rules.specs.Thread.{Thread, fresh_thread}
 use Rattle.operation_bounds.specs.Drains.{DrainsLook, HasNoLook, IsLook}
 use Rattle.operation_bounds.specs.Stretch.{thread_by}
 use Rattle.provider_poll.proofs.LeftLoads.{IsWaiting, poll_few}

@@ -22,7 +22,8 @@ use Rattle.provider_poll.specs.RuleStep.{poll_side_step, after_poll_side}
 use Rattle.actor_rules.specs.Calls.{MayCall, MayThread, after_call, after_thread, call_says, thread_says}
 use Rattle.actor_rules.specs.Polling.{MayPoll as MayPollIn, begun, poll_now, poll_mark, polled, is_loading, load_says, given_with, store_says, took_some, calls_after_drain}
 use Rattle.actor_rules.specs.Ready.{IsOwnCall}
-use Rattle.actor_rules.specs.Thread.{Thread, fresh_thread, poll_place}
+use Rattle.provider_poll.specs.Fresh.{poll_place}
+use Rattle.actor_rules.specs.Thread.{Thread, fresh_thread}
 use Rattle.actor_rules.specs.Holding.{IsMapped}
 use Rattle.actor_rules.proofs.Threading.{put_here}
 use Rattle.operation_bounds.specs.Drains.{DrainsTake, ShowsOwned, TakesNone, TakesOne}

@@ -20,7 +20,7 @@ use Rattle.provider_poll.specs.Rule.{PollRule, MayLookUp, MayGoOn, queues_at, qu
 use Rattle.provider_poll.specs.SendQueue.{SendView}
 use Rattle.provider_poll.specs.declared.state.PollState.TheVariants.{LookingUp}
 use Rattle.actor_rules.specs.Polling.{IsOnPolled, place_in, poll_mark}
-use Rattle.actor_rules.specs.Thread.{completing, poll_place}
+use Rattle.provider_poll.specs.Fresh.{poll_place, senders}
 use Rattle.actor_rules.specs.Holding.{IsMapped}
 use Rattle.actor_rules.proofs.PollPlaces.{places_of, place_of_position, living_by_place}
 use Rattle.actor_rules.specs.Completions.{HasPlace}
@@ -45,7 +45,7 @@ module _ (d : Lines) (cq : ℕ) (map_ok : IsMapped d) (lives : Lives d (Completi
   in_queue qp mark place may =
       let q = may.serves.served in
       let there : slice_get (queues_of (poll_place d cq) s) (place_in d cq qp) ≡ Some q = ap (λ (k : ℕ). slice_get (queues_of (poll_place d cq) s) k) may.queue_is ∙ may.serves.found in
-      let place_is : q.place ≡ send_of d qp = view_place d (completing d cq) s.retirers (place_in d cq qp) qp q there place.there in
+      let place_is : q.place ≡ send_of d qp = view_place d (senders d cq) s.retirers (place_in d cq qp) qp q there place.there in
       let fine : IsPlace (send_of d qp) = (map_ok.placed d (Sends qp) map_ok.declared (living_by_place d cq qp place).0).fine in
       lookup_inside (send_of d qp) fine refl e q.side completion.counter (found_before q.side) q.side.asked refl
       (subst (λ (p : WqPlace). MayServe p q.side (lookup_mark completion.counter (found_before q.side) q.side.asked) e) place_is (subst (λ (m : WqMark). MayServe q.place q.side m e) may.mark_is may.serves.serves))

@@ -20,7 +20,8 @@ use Rattle.provider_poll.specs.RuleStep.{after_poll_side}
 use Rattle.actor_rules.specs.Family.{put_number}
 use Rattle.actor_rules.specs.Polling.{MayPoll, begun, poll_now, poll_mark, polled, given_after, after_poll, calls_after_poll, calls_after_drain, drain_left}
 use Rattle.actor_rules.specs.Ready.{IsOwnCall}
-use Rattle.actor_rules.specs.Thread.{Thread, poll_place}
+use Rattle.provider_poll.specs.Fresh.{poll_place}
+use Rattle.actor_rules.specs.Thread.{Thread}
 use Rattle.actor_rules.proofs.Threading.{put_here, put_there, put_all}
 use Rattle.provider_poll.specs.Left.{poll_left}
 use Rattle.provider_poll.proofs.LeftLoads.{IsHost, IsWaiting, IsUnderWay, Goes, host_in}

@@ -29,7 +29,7 @@ use Rattle.object_places.specs.Places.{completions_of}
 use Rattle.provider_poll.specs.declared.state.PollState.TheVariants as states
 use Rattle.provider_poll.specs.Rule.{PollRule, OnHost, MayAcknowledge}
 use Rattle.provider_poll.specs.RuleStep.{poll_side_step, after_poll_side}
-use Rattle.actor_rules.specs.Thread.{poll_place}
+use Rattle.provider_poll.specs.Fresh.{poll_place}
 use Rattle.actor_rules.specs.Polling.{store_says}
 use Rattle.actor_rules.specs.View.{View}
 use Rattle.actor_rules.specs.Matching.{Match}

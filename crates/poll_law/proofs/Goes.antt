@@ -16,7 +16,8 @@ use Rattle.provider_poll.specs.declared.answer.PollAnswer.{PollAnswer}
 use Rattle.provider_poll.specs.Rule.{PollRule}
 use Rattle.provider_poll.specs.RuleStep.{after_poll_side}
 use Rattle.actor_rules.specs.Family.{put_number}
-use Rattle.actor_rules.specs.Thread.{Thread, poll_place}
+use Rattle.provider_poll.specs.Fresh.{poll_place}
+use Rattle.actor_rules.specs.Thread.{Thread}
 use Rattle.actor_rules.specs.Polling.{MayPoll, poll_now, poll_mark, polled, poll_says, took_some, given_after, drain_left, calls_after_poll, calls_after_drain}
 use Rattle.actor_rules.specs.Calls.{after_call, call_says, call_sees, MayCall, MayIn, after_in, says_in, sees_in}
 use Rattle.actor_rules.specs.Actors.{Actors, by, posted_with}

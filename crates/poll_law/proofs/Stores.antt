@@ -30,7 +30,7 @@ use Rattle.provider_poll.specs.RuleStep.{poll_side_step, after_poll_side}
 use Rattle.provider_poll.specs.SendQueue.{SendView}
 use Rattle.provider_poll.specs.Stores.{may_store, storing}
 use Rattle.device_engine.specs.State.{send_cq}
-use Rattle.actor_rules.specs.Thread.{poll_place, completing}
+use Rattle.provider_poll.specs.Fresh.{poll_place, senders}
 use Rattle.actor_rules.specs.Polling.{place_in, store_says}
 use Rattle.actor_rules.specs.Dues.{is_storing, store_dues, retiring}
 use Rattle.verbs_rules.specs.Sane.{Climbs, numbers_in}
@@ -162,7 +162,7 @@ module _ (d : Lines) (m : Memory) (around : View) (cq most : ℕ) (l : Lists) (v
         }
 
     retiring_is : retiring d cq x ≡ Retiring (Send qp)
-    retiring_is = ap (λ (i : ℕ). Retiring (Send (slice_index_or (completing d cq) i 0))) (sym is_here) ∙ ap (λ (n : ℕ). Retiring (Send n)) (get_or_from_slice_get (completing d cq) (place_in d cq qp) qp 0 place.there)
+    retiring_is = ap (λ (i : ℕ). Retiring (Send (slice_index_or (senders d cq) i 0))) (sym is_here) ∙ ap (λ (n : ℕ). Retiring (Send n)) (get_or_from_slice_get (senders d cq) (place_in d cq qp) qp 0 place.there)
 
     stores : Outcome d (after_entry m e) around cq most l v side given settled More (Some (RetireEntry (Send qp) x.end))
     stores =

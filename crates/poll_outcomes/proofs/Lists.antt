@@ -18,7 +18,7 @@ use Rattle.provider_poll.specs.Rule.{queues_at}
 use Rattle.provider_poll.specs.SendQueue.{SendView, is_idle}
 use Rattle.provider_poll.specs.Stores.{may_store, may_store_in, is_ready, from_ready, storing, storing_first}
 use Rattle.provider_poll.specs.PollStep.{place_of_number}
-use Rattle.actor_rules.specs.Thread.{completing}
+use Rattle.provider_poll.specs.Fresh.{senders}
 use Rattle.actor_rules.specs.Polling.{place_in}
 use Rattle.actor_rules.specs.Dues.{retiring}
 use Rattle.verbs_rules.specs.Sane.{Climbs, numbers_in}
@@ -152,8 +152,8 @@ module _ (d : Lines) (cq : ℕ) (rs : List Retirer) where
   -- what is to be stored for an end is owed for its completion
   retiring_is : (e : End) (u : Unpolled) → IsPlaced d cq u → IsEnd d cq rs e u → retiring d cq e ≡ Retiring u.completion.queue
   retiring_is e u p is =
-      ap (λ (i : ℕ). Retiring (Send (slice_index_or (completing d cq) i 0))) is.queue
-      ∙ ap (λ (n : ℕ). Retiring (Send n)) (get_or_from_slice_get (completing d cq) (place_in d cq u.completion.qp) u.completion.qp 0 p.place.there)
+      ap (λ (i : ℕ). Retiring (Send (slice_index_or (senders d cq) i 0))) is.queue
+      ∙ ap (λ (n : ℕ). Retiring (Send n)) (get_or_from_slice_get (senders d cq) (place_in d cq u.completion.qp) u.completion.qp 0 p.place.there)
       ∙ ap (λ (q : Queue). Retiring q) (sym p.queue)
 
   retiring_all : (es : List End) (us : List Unpolled) → AllByRecursion (IsPlaced d cq) us → Match (IsEnd d cq rs) es us → map (retiring d cq) es ≡ map (λ (y : Completion). Retiring y.queue) (map completion_in us)
@@ -174,10 +174,10 @@ pub record MayBeStored (r : Retirer) (end : ℕ) : Type 0 where
   pub found : end ≤ r.found
   pub low : end < 2 ^ 62
 
-pub may_be_stored : (d : Lines) (cq qp : ℕ) (rs : List Retirer) (e : End) → length rs ≡ length (completing d cq) → HasPlace d cq qp → e.queue ≡ place_in d cq qp → MayBeStored (retirer_in rs (place_in d cq qp)) e.end → may_store (queues_at (places_of d (completing d cq)) rs) e ≡ true
+pub may_be_stored : (d : Lines) (cq qp : ℕ) (rs : List Retirer) (e : End) → length rs ≡ length (senders d cq) → HasPlace d cq qp → e.queue ≡ place_in d cq qp → MayBeStored (retirer_in rs (place_in d cq qp)) e.end → may_store (queues_at (places_of d (senders d cq)) rs) e ≡ true
 may_be_stored d cq qp rs e long h is may =
-    ap (λ (i : ℕ). may_store_in (slice_get (queues_at (places_of d (completing d cq)) rs) i) e.end) is
-    ∙ ap (λ (o : Option SendView). may_store_in o e.end) (view_there d (completing d cq) rs (place_in d cq qp) qp long h.there)
+    ap (λ (i : ℕ). may_store_in (slice_get (queues_at (places_of d (senders d cq)) rs) i) e.end) is
+    ∙ ap (λ (o : Option SendView). may_store_in o e.end) (view_there d (senders d cq) rs (place_in d cq qp) qp long h.there)
     ∙ and_from _ _ (and_from _ _ (and_from _ _ (ap is_idle may.idle) (lt-ltb _ _ may.later)) (le-leb _ _ may.found)) (lt-ltb _ _ may.low)
 
 -- where the first may be stored, none is left out

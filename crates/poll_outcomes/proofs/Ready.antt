@@ -14,7 +14,7 @@ use Rattle.provider_poll.specs.Rule.{PollRule, queues_at}
 use Rattle.provider_poll.specs.SendQueue.{SendView}
 use Rattle.provider_poll.specs.Stores.{may_store, storing}
 use Rattle.provider_poll.specs.PollStep.{place_of}
-use Rattle.actor_rules.specs.Thread.{completing}
+use Rattle.provider_poll.specs.Fresh.{senders}
 use Rattle.actor_rules.specs.Polling.{place_in}
 use Rattle.verbs_rules.specs.Sane.{Climbs, numbers_in}
 use Rattle.actor_rules.specs.View.{View}
@@ -26,7 +26,7 @@ use Rattle.poll_outcomes.proofs.Lists.{may_be_stored, place_of_view, stores_all,
 
 -- the send queues by place
 abbrev pub views : Lines → ℕ → List Retirer → List SendView
-views d cq rs = queues_at (places_of d (completing d cq)) rs
+views d cq rs = queues_at (places_of d (senders d cq)) rs
 
 -- what the retirers know
 pub record Finds (l : Lists) (qp : ℕ) (r : Retirer) : Type 0 where
@@ -34,7 +34,7 @@ pub record Finds (l : Lists) (qp : ℕ) (r : Retirer) : Type 0 where
   pub found : r.found ≤ (l.queues (Send qp)).taken
   pub low : (l.queues (Send qp)).taken < 2 ^ 62
 
-pub first_ready : (d : Lines) (cq : ℕ) (l : Lists) (rs : List Retirer) (x : End) (u : Unpolled) → length rs ≡ length (completing d cq) → IsPlaced d cq u → IsEnd d cq rs x u → (retirer_in rs (place_in d cq u.completion.qp)).asked ≡ None
+pub first_ready : (d : Lines) (cq : ℕ) (l : Lists) (rs : List Retirer) (x : End) (u : Unpolled) → length rs ≡ length (senders d cq) → IsPlaced d cq u → IsEnd d cq rs x u → (retirer_in rs (place_in d cq u.completion.qp)).asked ≡ None
     → Finds l u.completion.qp (retirer_in rs (place_in d cq u.completion.qp)) → (l.queues (Send u.completion.qp)).retired < u.number → may_store (views d cq rs) x ≡ true
 first_ready d cq l rs x u long placed is none finds later =
     let found : u.number ≤ (retirer_in rs (place_in d cq u.completion.qp)).found = subst (λ (i : ℕ). u.number ≤ (retirer_in rs i).found) is.queue is.found in
@@ -50,10 +50,10 @@ pub stores_these : (queues : List SendView) (taken : ℕ) (empty : Option ℕ) (
 stores_these queues taken empty x xs ready = stores_all queues taken empty (x ∷ xs) ready
 
 -- the place of the queue whose request a completion is of
-pub place_found : (d : Lines) (cq : ℕ) (l : Lists) (rs : List Retirer) (c : Cqe) (u : Unpolled) → length rs ≡ length (completing d cq) → IsPlaced d cq u → IsCompletion l c u → place_of (views d cq rs) c ≡ Some (place_in d cq u.completion.qp)
+pub place_found : (d : Lines) (cq : ℕ) (l : Lists) (rs : List Retirer) (c : Cqe) (u : Unpolled) → length rs ≡ length (senders d cq) → IsPlaced d cq u → IsCompletion l c u → place_of (views d cq rs) c ≡ Some (place_in d cq u.completion.qp)
 place_found d cq l rs c u long placed is =
     ap (λ (x : Cqe). place_of (views d cq rs) x) is.words
-    ∙ place_of_view d u.completion.qp (completing d cq) rs long
+    ∙ place_of_view d u.completion.qp (senders d cq) rs long
     ∙ placed.place.is
 
 -- no lookup has loaded an id but that of the completion that is looked up

@@ -25,7 +25,7 @@ use Rattle.provider_poll.specs.declared.poll_step.PollStep.{PollStep}
 use Rattle.provider_poll.specs.Rule.{PollRule, OnQueue, MayServeIn, queues_of}
 use Rattle.provider_poll.specs.RuleStep.{asked_in, asked_with, retirers_with, poll_side_step, after_poll_side}
 use Rattle.provider_poll.specs.SendQueue.{SendView}
-use Rattle.actor_rules.specs.Thread.{completing, poll_place}
+use Rattle.provider_poll.specs.Fresh.{poll_place, senders}
 use Rattle.actor_rules.specs.Polling.{place_in}
 use Rattle.verbs_laws.proofs.Choices.{either}
 use Rattle.actor_rules.specs.View.{View}
@@ -49,7 +49,7 @@ module _ (d : Lines) (m : Memory) (around : View) (cq most : ℕ) (l : Lists) (v
   fine_now = (now.mapped.placed d (Sends qp) now.mapped.declared (living_by_place d cq qp place).0).fine
 
   view_now : slice_get (queues_of (poll_place d cq) p) here ≡ Some (view d qp side_of)
-  view_now = view_there d (completing d cq) p.retirers here qp now.stands.retirers place.there
+  view_now = view_there d (senders d cq) p.retirers here qp now.stands.retirers place.there
 
   -- the view that an operation is on is the queue pair's
   pub served_is : (queue : ℕ) (mark : WqMark) (s : MayServeIn (poll_place d cq) p queue mark e) → here ≡ queue → s.served ≡ view d qp side_of
@@ -95,7 +95,7 @@ module _ (d : Lines) (m : Memory) (around : View) (cq most : ℕ) (l : Lists) (v
     pub side_there : (i : ℕ) → i ≢ here → retirer_in retirers_with_side i ≡ retirer_in p.retirers i
     side_there i apart = get_or-set_other p.retirers here i side fresh_finder.retirer apart
 
-    pub sides_long : length retirers_with_side ≡ length (completing d cq)
+    pub sides_long : length retirers_with_side ≡ length (senders d cq)
     sides_long = length-set p.retirers here side ∙ now.stands.retirers
 
     -- what holds of this one and of the others

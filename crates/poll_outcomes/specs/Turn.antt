@@ -16,7 +16,7 @@ use Rattle.object_places.specs.Objects.{Mark}
 use Rattle.provider_poll.specs.declared.state.PollState.{PollState}
 use Rattle.provider_poll.specs.declared.poll_step.PollStep.{PollStep}
 use Rattle.provider_poll.specs.RuleStep.{poll_side_step, after_poll_side}
-use Rattle.actor_rules.specs.Thread.{poll_place}
+use Rattle.provider_poll.specs.Fresh.{poll_place}
 use Rattle.poll_outcomes.specs.Now.{PollNow}
 use Rattle.poll_outcomes.specs.Outcome.{Outcome}
 

@@ -1,3 +1,4 @@
+pub mod Ranges
 pub mod Changed
 pub mod Hosts
 pub mod Kept

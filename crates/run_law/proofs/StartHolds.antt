@@ -27,7 +27,8 @@ use Rattle.counted_ring.proofs.Tied.{Tied}
 use Rattle.object_places.specs.Apart.{AreAtStart}
 use Rattle.object_places.specs.Objects.{Object, Completions, Sends, Receives, Lives}
 use Rattle.object_places.specs.Places.{send_of, receive_of, completions_of, qp_line, cq_line, no_qp, no_cq}
-use Rattle.actor_rules.specs.Thread.{fresh_thread, fresh_poll, program_of, completing, queue_place, queue_start, QueueLives, segments_of}
+use Rattle.provider_poll.specs.Fresh.{fresh_rule, senders}
+use Rattle.actor_rules.specs.Thread.{fresh_thread, program_of, queue_place, queue_start, QueueLives, segments_of}
 use Rattle.actor_rules.specs.Actors.{Actors, fresh_actors}
 use Rattle.actor_rules.specs.Polling.{place_in}
 use Rattle.device_engine.specs.State.{AdapterAt, Looking, Ending, send_cq, first_work, fresh_adapter}
@@ -83,7 +84,7 @@ module _ (d : Lines) (programs : List (List Call)) where
   objects_start starts declared (Sends qp) lives =
       let place = send_of d qp in
       let begun = requests_law.start_tied place (qp_line d qp).start (start_words d 1) (starts d 1 (Sends qp) declared lives) in
-      subst (λ (r : Retirer). Tied place (start_words d 1) (fresh_poster (qp_line d qp).start) r (fresh_device (qp_line d qp).start) (counted.empty_queue (qp_line d qp).start)) (sym (fresh_retirers (completing d (send_cq d qp)) (place_in d (send_cq d qp) qp))) begun
+      subst (λ (r : Retirer). Tied place (start_words d 1) (fresh_poster (qp_line d qp).start) r (fresh_device (qp_line d qp).start) (counted.empty_queue (qp_line d qp).start)) (sym (fresh_retirers (senders d (send_cq d qp)) (place_in d (send_cq d qp) qp))) begun
   objects_start starts declared (Receives qp) lives = requests_law.start_tied (receive_of d qp) (qp_line d qp).start (start_words d 1) (starts d 1 (Receives qp) declared lives)
 
   size_start : (cq : ℕ) → Lives d (Completions cq) → size_of d cq ≡ 2 ^ (cq_line d cq).log
@@ -116,7 +117,7 @@ module _ (d : Lines) (programs : List (List Call)) where
   queues_start (queues.Recv qp) lives = queue_stands (queues.Recv qp) (for_line_at FIRST_QP d.qps (λ (l : QpLine). 2 ^ l.recv_log) 0 no_qp qp lives) (for_line_at FIRST_QP d.qps (λ (l : QpLine). l.segments) 0 no_qp qp lives)
   queues_start (queues.Shared srq) lives = absurd lives
 
-  completions_stand : (cq : ℕ) → Lives d (Completions cq) → CompletionsStand d lists (fresh_poll d cq) [] (start d) cq
+  completions_stand : (cq : ℕ) → Lives d (Completions cq) → CompletionsStand d lists (fresh_rule d cq) [] (start d) cq
   completions_stand cq lives =
       let is = index_start cq lives in record {
         counts = record { acked = is; produced = is ∙ omega arith; size = size_start cq lives; runs = refl };
@@ -127,8 +128,8 @@ module _ (d : Lines) (programs : List (List Call)) where
         reads = tt;
         shows = record { least = omega arith; enough = λ holds. absurd (omega (arith, holds)); reading = tt };
         poll = tt;
-        retirers = length-map (completing d cq) (λ (qp : ℕ). fresh_finder.retirer);
-        asked = λ place. subst (λ (r : Retirer). AskedFor Idle place r.asked) (sym (fresh_retirers (completing d cq) place)) tt;
+        retirers = length-map (senders d cq) (λ (qp : ℕ). fresh_finder.retirer);
+        asked = λ place. subst (λ (r : Retirer). AskedFor Idle place r.asked) (sym (fresh_retirers (senders d cq) place)) tt;
         ends = λ qp there into. refl;
       }
     where

@@ -4,7 +4,6 @@ pub mod Rising
 pub mod Beginning
 pub mod Posting
 pub mod PostTurns
-pub mod Senders
 pub mod PollNotes
 pub mod Polling
 pub mod PollInside

@@ -28,7 +28,7 @@ use Rattle.provider_poll.specs.Fresh.{poll_place, sender_place, senders, complet
 use Rattle.provider_poll.specs.Poll.{PollView}
 use Rattle.provider_poll.specs.Rule.{PollPlace, QueuePlace}
 use Rattle.provider_poll.specs.SendQueue.{SendView}
-use Rattle.thread_actor.proofs.Senders.{from_least, below_most}
+use Rattle.provider_poll.proofs.Ranges.{from_least, below_most}
 
 -- the place of a queue of the side is that of a queue pair
 record IsAt (d : Lines) (q : SendView) : Type 0 where

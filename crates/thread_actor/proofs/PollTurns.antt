@@ -36,7 +36,8 @@ use Rattle.actor_rules.specs.Calls.{MayCall, after_call, call_says, call_sees}
 use Rattle.actor_rules.specs.Family.{put_number}
 use Rattle.actor_rules.specs.Polling as rules
 use Rattle.actor_rules.specs.Polling.{MayPoll, poll_now, poll_mark, polled, poll_says, poll_sees, took_some, given_after, given_with, is_loading, load_says, store_says, calls_after_poll, calls_after_drain, drain_left}
-use Rattle.actor_rules.specs.Thread.{Thread, poll_place, queue_start, fresh_poll}
+use Rattle.provider_poll.specs.Fresh.{fresh_rule, poll_place}
+use Rattle.actor_rules.specs.Thread.{Thread, queue_start}
 use Rattle.thread_actor.specs.declared.polls.Polled.{Polled}
 use Rattle.thread_actor.specs.declared.progress.Progress.{Progress}
 use Rattle.thread_actor.specs.Progress.{after_poll, after_drain, after_one}
@@ -55,7 +56,6 @@ use Rattle.thread_actor.proofs.Posting.{same_thread}
 use Rattle.thread_actor.proofs.PostTurns.{Goes}
 use Rattle.thread_actor.proofs.Resting.{AllRest, KeepsSides, moved, none_posting, left_none, others_rest, rests_work, stands_next, stands_on, each_at}
 use Rattle.thread_actor.proofs.Rising.{weaken_poster, weaken_host}
-use Rattle.thread_actor.proofs.Senders.{poll_place_is}
 
 -- a call that takes completions, as it is left, of at most so many at once
 pub record IsTake (call now : Call) (cq most : ℕ) : Type 0 where
@@ -126,10 +126,10 @@ module _ (v : ThreadView) (sides : SidesView) (call now : Call) (cq most : ℕ) 
   pm = kept_rule.mark
 
   place_is : follows.place_of (begun before most) ≡ poll_place v.lines cq
-  place_is = place_begun before most ∙ (is.place ∙ poll_place_is v.lines cq)
+  place_is = place_begun before most ∙ is.place
 
   polls_was : (thread_of v).polls cq ≡ follows.rule_of before
-  polls_was = ap (poll_in (fresh_poll v.lines cq)) moves.was
+  polls_was = ap (poll_in (fresh_rule v.lines cq)) moves.was
 
   now_is : follows.rule_of (begun before most) ≡ poll_now (thread_of v) cq most
   now_is = rule_begun before most ∙ sym (ap (λ (r : PollRule). begun_rule r most) polls_was)
@@ -242,14 +242,14 @@ module _ (v : ThreadView) (sides : SidesView) (call now : Call) (cq most : ℕ) 
         ∙ ap (λ (s : SidesView). poster_in (fresh_poster (queue_start v.lines queue)) (post_side s queue)) same_sides
         ∙ ap (poster_in (fresh_poster (queue_start v.lines queue))) (moves.posts queue)
 
-    poll_there : (other : ℕ) → (thread_of v').polls other ≡ poll_in (fresh_poll v.lines other) (poll_side sides other)
-    poll_there other = ap (λ (l : Lines). poll_in (fresh_poll l other) (poll_side v'.sides other)) same_lines ∙ ap (λ (s : SidesView). poll_in (fresh_poll v.lines other) (poll_side s other)) same_sides
+    poll_there : (other : ℕ) → (thread_of v').polls other ≡ poll_in (fresh_rule v.lines other) (poll_side sides other)
+    poll_there other = ap (λ (l : Lines). poll_in (fresh_rule l other) (poll_side v'.sides other)) same_lines ∙ ap (λ (s : SidesView). poll_in (fresh_rule v.lines other) (poll_side s other)) same_sides
 
     polls_after : (other : ℕ) → (thread_of v').polls other ≡ put_number (thread_of v).polls cq after_rule other
     polls_after other = elim (eqb_tells other cq) [
       | inl same ↦ subst (λ (k : ℕ). (thread_of v').polls k ≡ put_number (thread_of v).polls cq after_rule k) (sym same.1)
-          (poll_there cq ∙ ap (poll_in (fresh_poll v.lines cq)) moves.now ∙ after_is ∙ sym (number_here (thread_of v).polls cq after_rule))
-      | inr apart ↦ poll_there other ∙ ap (poll_in (fresh_poll v.lines other)) (moves.others other apart.1) ∙ sym (number_there (thread_of v).polls cq other after_rule apart.1)
+          (poll_there cq ∙ ap (poll_in (fresh_rule v.lines cq)) moves.now ∙ after_is ∙ sym (number_here (thread_of v).polls cq after_rule))
+      | inr apart ↦ poll_there other ∙ ap (poll_in (fresh_rule v.lines other)) (moves.others other apart.1) ∙ sym (number_there (thread_of v).polls cq other after_rule apart.1)
     ]
 
     polls_rise : (bound : ℕ) → IsBelow bound (thread_of v) → (other : ℕ) → IsHostBelow (bound + 64) ((thread_of v').polls other).host

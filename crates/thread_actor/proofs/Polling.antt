@@ -28,7 +28,6 @@ use Rattle.provider_poll.specs.declared.state.End.{End}
 use Rattle.provider_poll.specs.declared.state.PollState.{PollState}
 use Rattle.provider_poll.specs.declared.state.PollState.TheVariants as states
 use Rattle.provider_poll.specs.declared.poll_step.PollStep.{PollStep}
-use Rattle.provider_poll.specs.Fresh.{senders, completes_to}
 use Rattle.provider_poll.specs.FollowsRule as follows
 use Rattle.provider_poll.specs.Poll.{PollView}
 use Rattle.provider_poll.specs.Poll as polls
@@ -39,13 +38,13 @@ use Rattle.provider_poll.specs.PollStep.{after_retire, after_ack}
 use Rattle.provider_poll.specs.Turns.{acked_index}
 use Rattle.actor_rules.specs.Polling as rules
 use Rattle.actor_rules.specs.Polling.{place_in, poll_mark, IsOnPolled, given_with, is_loading, load_says, store_says}
-use Rattle.actor_rules.specs.Thread.{completing, poll_place}
+use Rattle.provider_poll.specs.Fresh.{completes_to, poll_place, senders}
 use Rattle.thread_actor.specs.Polls.{begun, begun_at}
 use Rattle.thread_actor.specs.Small.{IsHostBelow}
 use Rattle.thread_actor.specs.Stands.{IsPolling}
 use Rattle.thread_actor.proofs.PollNotes.{Leaves, looks, looks_up, retires, acknowledges}
 use Rattle.thread_actor.proofs.Rising.{polls_below, weaken_host}
-use Rattle.thread_actor.proofs.Senders.{completing_is, position_is}
+use Rattle.provider_poll.proofs.Ranges.{position_is}
 
 -- a side as its rule sees it, with its poll that may be about to begin
 abbrev pub begun_rule : PollRule → ℕ → PollRule
@@ -74,7 +73,7 @@ place_begun side most = place_at side most side.state
 -- the mark of a thread's operation that is this one to the side that polls
 abbrev pub to_mark : Lines → ℕ → PollMark → Mark
 to_mark d cq (OnHost mark) = OnCompletions cq mark
-to_mark d cq (OnQueue index mark) = OnSends (slice_index_or (completing d cq) index 0) mark
+to_mark d cq (OnQueue index mark) = OnSends (slice_index_or (senders d cq) index 0) mark
 
 -- the queue in whose words an operation is
 pub record Served (place : PollPlace) (s : PollRule) (index : ℕ) (mark : WqMark) (e : BusEntry) : Type 0 where
@@ -112,12 +111,11 @@ index_or ns index n found = get_or_from_slice_get ns index n 0 found
 
 module _ (d : Lines) (cq : ℕ) (s : PollRule) (e : BusEntry) where
   -- a queue of the side is one of those that complete to it, at its place
-  listed : (index : ℕ) (mark : WqMark) (at_queue : Served (poll_place d cq) s index mark e) → slice_get (completing d cq) index ≡ Some at_queue.served.number
-  listed index mark at_queue = number_at (completing d cq) (λ (qp : ℕ). record { number = qp; place = send_of d qp }) s.retirers index at_queue.served (λ n. refl) at_queue.found
+  listed : (index : ℕ) (mark : WqMark) (at_queue : Served (poll_place d cq) s index mark e) → slice_get (senders d cq) index ≡ Some at_queue.served.number
+  listed index mark at_queue = number_at (senders d cq) (λ (qp : ℕ). record { number = qp; place = send_of d qp }) s.retirers index at_queue.served (λ n. refl) at_queue.found
 
-  placed : (index n : ℕ) → slice_get (completing d cq) index ≡ Some n → position (λ (m : ℕ). m == n) (completing d cq) ≡ Some index
-  placed index n found = subst (λ (ns : List ℕ). position (λ (m : ℕ). m == n) ns ≡ Some index) (sym (completing_is d cq))
-      (position_is (completes_to d cq) FIRST_QP (length d.qps) index n (subst (λ (ns : List ℕ). slice_get ns index ≡ Some n) (completing_is d cq) found))
+  placed : (index n : ℕ) → slice_get (senders d cq) index ≡ Some n → position (λ (m : ℕ). m == n) (senders d cq) ≡ Some index
+  placed index n found = position_is (completes_to d cq) FIRST_QP (length d.qps) index n found
 
   -- what the thread's mark is to the side
   pub mark_back : (mark : PollMark) → MayPollSide (poll_place d cq) s mark e → poll_mark d cq (to_mark d cq mark) ≡ mark
@@ -126,7 +124,7 @@ module _ (d : Lines) (cq : ℕ) (s : PollRule) (e : BusEntry) where
       let at_queue = serves s.state (poll_place d cq) s index mark e may in
       let n = at_queue.served.number in
       let there = listed index mark at_queue in
-      ap (λ (k : ℕ). OnQueue (place_in d cq k) mark) (index_or (completing d cq) index n there) ∙ ap (λ (o : Option ℕ). OnQueue (unwrap_or o 0) mark) (placed index n there)
+      ap (λ (k : ℕ). OnQueue (place_in d cq k) mark) (index_or (senders d cq) index n there) ∙ ap (λ (o : Option ℕ). OnQueue (unwrap_or o 0) mark) (placed index n there)
 
   pub on_polled : (mark : PollMark) → MayPollSide (poll_place d cq) s mark e → IsOnPolled d cq (to_mark d cq mark)
   on_polled (OnHost mark) may = refl
@@ -134,7 +132,7 @@ module _ (d : Lines) (cq : ℕ) (s : PollRule) (e : BusEntry) where
       let at_queue = serves s.state (poll_place d cq) s index mark e may in
       let n = at_queue.served.number in
       let there = listed index mark at_queue in
-      subst (λ (k : ℕ). position (λ (m : ℕ). m == k) (completing d cq) ≡ Some (place_in d cq k)) (sym (index_or (completing d cq) index n there))
+      subst (λ (k : ℕ). position (λ (m : ℕ). m == k) (senders d cq) ≡ Some (place_in d cq k)) (sym (index_or (senders d cq) index n there))
       (placed index n there ∙ ap (λ (o : Option ℕ). Some (unwrap_or o 0)) (sym (placed index n there)))
 
 -- what the operation says, by its mark
@@ -157,8 +155,8 @@ module _ (d : Lines) (cq most : ℕ) (given : List Completion) (host : Consumer)
       (retires cq most given seen queues taken empty rest number end.end some))
 
   -- the queue is that of the thread's mark
-  number_is : (s : PollRule) (index : ℕ) (mark : WqMark) (at_queue : Served (poll_place d cq) s index mark e) → slice_index_or (completing d cq) index 0 ≡ at_queue.served.number
-  number_is s index mark at_queue = index_or (completing d cq) index at_queue.served.number (listed d cq s e index mark at_queue)
+  number_is : (s : PollRule) (index : ℕ) (mark : WqMark) (at_queue : Served (poll_place d cq) s index mark e) → slice_index_or (senders d cq) index 0 ≡ at_queue.served.number
+  number_is s index mark at_queue = index_or (senders d cq) index at_queue.served.number (listed d cq s e index mark at_queue)
 
   -- by how far the poll has come
   pub leaves : (state : PollState) (mark : PollMark) → IsPolling most given state → MayGoOn state (poll_place d cq) (with_state state) mark e
@@ -182,7 +180,7 @@ module _ (d : Lines) (cq most : ℕ) (given : List Completion) (host : Consumer)
       let at_queue = serves (states.Retiring taken empty left) (poll_place d cq) s index mark e may in
       let qs = queues_at (poll_place d cq).queues (retirers_by (poll_place d cq) s index mark e) in
       subst (λ (o : Option SendView). Leaves most given (store_says (to_mark d cq (OnQueue index mark))) seen (asked_with (poll_place d cq) s qs mark e o)) (sym at_queue.found)
-      (retired qs taken empty left.items s index (slice_index_or (completing d cq) index 0) mark at_queue.served.number (number_is s index mark at_queue) polling may)
+      (retired qs taken empty left.items s index (slice_index_or (senders d cq) index 0) mark at_queue.served.number (number_is s index mark at_queue) polling may)
   leaves (states.Acking taken empty) (OnHost mark) polling may =
       subst (λ (m : QueueMark). Leaves most given (store_says (OnCompletions cq m)) (seen_by (poll_place d cq) (with_state (states.Acking taken empty)) mark e) (after_ack cq taken empty (acked_index (host_step e (polled (poll_place d cq).cq host m e))))) (sym may.index)
       (acknowledges cq most given (seen_by (poll_place d cq) (with_state (states.Acking taken empty)) mark e) taken empty (next_index host) polling)

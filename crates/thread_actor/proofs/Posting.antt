@@ -22,6 +22,7 @@ use Rattle.provider_post.specs.declared.answer.PostAnswer.{PostAnswer}
 use Rattle.provider_post.specs.declared.call.Call as post
 use Rattle.provider_post.specs.Call.{fresh_call, mark_of}
 use Rattle.provider_post.specs.Rule.{PostRule, MayPostSide, post_side_call, post_side_poster, post_side_entry, post_side_note}
+use Rattle.provider_poll.specs.Fresh.{fresh_rule}
 use Rattle.provider_post.specs.Side.{PostView, PostTurn, rule_of}
 use Rattle.actor_rules.specs.Thread.{Thread, queue_place, queue_start}
 use Rattle.actor_rules.specs.Thread as rules
@@ -135,8 +136,8 @@ module _ (v : ThreadView) (queue : Queue) (items : List Item) (e : BusEntry) (be
 
     polls_after : (cq : ℕ) → (thread_of v').polls cq ≡ t.polls cq
     polls_after cq =
-        ap (λ (l : Lines). poll_in (rules.fresh_poll l cq) (poll_side v'.sides cq)) same_lines
-        ∙ ap (poll_in (rules.fresh_poll v.lines cq)) (moves.polls cq)
+        ap (λ (l : Lines). poll_in (fresh_rule l cq) (poll_side v'.sides cq)) same_lines
+        ∙ ap (poll_in (fresh_rule v.lines cq)) (moves.polls cq)
 
     pub post_after : (rest : List Call) → (thread_of v').calls ≡ calls_after_post after.call t.calls rest → (thread_of v').posting ≡ after.call → v'.given ≡ v.given → v'.ended ≡ v.ended
         → thread_of v' ≡ after_post d t queue items e rest

@@ -14,7 +14,7 @@ use Rattle.provider_poll.specs.Poll.{PollView, CanPoll, LiesWithin}
 use Rattle.provider_poll.specs.Rule.{PollRule}
 use Rattle.provider_poll.specs.Turns.{places}
 use Rattle.actor_rules.specs.Polling as rules
-use Rattle.actor_rules.specs.Thread.{fresh_poll}
+use Rattle.provider_poll.specs.Fresh.{fresh_rule}
 use Rattle.thread_actor.specs.Calls.{CanCall}
 use Rattle.thread_actor.specs.Polls.{HasRoomAt, MayGoOn, Ready, CanPollAt}
 use Rattle.thread_actor.specs.Sides.{joined, poll_side, IfThere}
@@ -42,7 +42,7 @@ module _ (v : ThreadView) (call now : Call) (cq most : ℕ) (kind : IsTake call 
   polling = subst (IfThere (λ (s : PollView). IsPolling most v.given s.state)) was (kind.at_work v (drop (v.finished + 1) v.program) (subst (IsAtWork v) left stands.work))
 
   below : IsHostBelow (2 ^ 61) side.host.side
-  below = subst (λ (o : Option PollView). IsHostBelow (2 ^ 61) (poll_in (fresh_poll v.lines cq) o).host) was (small.polls cq)
+  below = subst (λ (o : Option PollView). IsHostBelow (2 ^ 61) (poll_in (fresh_rule v.lines cq) o).host) was (small.polls cq)
 
   may_go_on : MayGoOn side most v.given
   may_go_on = record {

@@ -26,7 +26,8 @@ use Rattle.provider_poll.specs.Fresh as side
 use Rattle.provider_poll.specs.Poll.{PollView}
 use Rattle.provider_poll.specs.Rule.{PollRule}
 use Rattle.provider_poll.proofs.Fresh.{begins_as}
-use Rattle.actor_rules.specs.Thread.{Thread, queue_start, fresh_poll}
+use Rattle.provider_poll.specs.Fresh.{fresh_rule}
+use Rattle.actor_rules.specs.Thread.{Thread, queue_start}
 use Rattle.thread_actor.specs.Fresh.{CanRun, IsFresh, fresh_thread}
 use Rattle.thread_actor.specs.NewSides.{IsNewPost, IsNewPoll, AreNew}
 use Rattle.thread_actor.specs.Sides.{SidesView, post_side, poll_side, IfThere}
@@ -35,7 +36,6 @@ use Rattle.thread_actor.specs.Stands.{IsThread, IsPostSide, IsPollSide, PostRest
 use Rattle.thread_actor.specs.View.{ThreadView, thread_of, calls_left, poster_in, poll_in}
 use Rattle.thread_actor.proofs.Posting.{same_thread}
 use Rattle.thread_actor.proofs.Resting.{AllRest, there, others_rest, rests_work, none_posting, left_none}
-use Rattle.thread_actor.proofs.Senders.{completing_is}
 use Rattle.thread_actor.proofs.Turning.{progress_of}
 
 module _ (d : Lines) (declared : IsTrue (is_declared d)) where
@@ -80,14 +80,11 @@ module _ (d : Lines) (s : SidesView) (new : AreNew d s) where
     by_side None is = refl
     by_side (Some v) is = ap (λ (w : PostView). w.poster.side) is.fresh
 
-  fresh_rule_is : (cq : ℕ) → side.fresh_rule d cq ≡ fresh_poll d cq
-  fresh_rule_is cq = λ i. record { host = fresh_host (cq_line d cq).start; seen = 0; retirers = map (λ (qp : ℕ). fresh_finder.retirer) (sym (completing_is d cq) i); state = Idle }
-
-  poll_is : (cq : ℕ) → poll_in (fresh_poll d cq) (poll_side s cq) ≡ fresh_poll d cq
+  poll_is : (cq : ℕ) → poll_in (fresh_rule d cq) (poll_side s cq) ≡ fresh_rule d cq
   poll_is cq = by_side (poll_side s cq) (new.takes cq) where
-    by_side : (o : Option PollView) → IfThere (IsNewPoll d cq) o → poll_in (fresh_poll d cq) o ≡ fresh_poll d cq
+    by_side : (o : Option PollView) → IfThere (IsNewPoll d cq) o → poll_in (fresh_rule d cq) o ≡ fresh_rule d cq
     by_side None is = refl
-    by_side (Some v) is = ap follows.rule_of is.fresh ∙ ((begins_as d cq).rule ∙ fresh_rule_is cq)
+    by_side (Some v) is = ap follows.rule_of is.fresh ∙ (begins_as d cq).rule
 
   module _ (number : ℕ) (calls : List Call) where
     -- the thread with these sides

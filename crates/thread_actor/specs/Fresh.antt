@@ -4,7 +4,8 @@ use Rattle.std.specs.List.{AllByRecursion}
 use Rattle.verbs_types.specs.declared.call.Call.{Call}
 use Rattle.verbs_types.specs.declared.declaration.Lines.{Lines}
 use Rattle.counted_ring.specs.Law.{fresh_poster}
-use Rattle.actor_rules.specs.Thread.{Thread, queue_start, fresh_poll}
+use Rattle.provider_poll.specs.Fresh.{fresh_rule}
+use Rattle.actor_rules.specs.Thread.{Thread, queue_start}
 use Rattle.thread_actor.specs.Calls.{CanCall}
 use Rattle.thread_actor.specs.Small.{IsBelow}
 use Rattle.thread_actor.specs.View.{ThreadView, thread_of}
@@ -16,7 +17,7 @@ fresh_thread d calls = record {
   posting = None;
   given = [];
   posters = λ queue. fresh_poster (queue_start d queue);
-  polls = fresh_poll d;
+  polls = fresh_rule d;
   ended = false;
 }
 

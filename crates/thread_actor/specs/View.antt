@@ -12,7 +12,8 @@ use Rattle.provider_post.specs.Side.{PostView}
 use Rattle.provider_poll.specs.Poll.{PollView}
 use Rattle.provider_poll.specs.Rule.{PollRule}
 use Rattle.provider_poll.specs.FollowsRule.{rule_of}
-use Rattle.actor_rules.specs.Thread.{Thread, queue_start, fresh_poll}
+use Rattle.provider_poll.specs.Fresh.{fresh_rule}
+use Rattle.actor_rules.specs.Thread.{Thread, queue_start}
 use Rattle.thread_actor.specs.Sides.{SidesView, post_side, poll_side}
 
 pub record ThreadView : Type 0 where
@@ -68,6 +69,6 @@ thread_of v = record {
   posting = posting_in v (calls_left v);
   given = v.given;
   posters = λ queue. poster_in (fresh_poster (queue_start v.lines queue)) (post_side v.sides queue);
-  polls = λ cq. poll_in (fresh_poll v.lines cq) (poll_side v.sides cq);
+  polls = λ cq. poll_in (fresh_rule v.lines cq) (poll_side v.sides cq);
   ended = v.ended;
 }

@@ -8,7 +8,8 @@ use Rattle.counted_ring.specs.Law.{fresh_poster}
 use Rattle.object_places.specs.Objects.{Mark}
 use Rattle.device_engine.specs.Counts.{CountsBelow, CountsGrow}
 use Rattle.device_engine.specs.State.{AdapterRule}
-use Rattle.actor_rules.specs.Thread.{Thread, queue_start, fresh_poll, fresh_thread}
+use Rattle.provider_poll.specs.Fresh.{fresh_rule}
+use Rattle.actor_rules.specs.Thread.{Thread, queue_start, fresh_thread}
 use Rattle.actor_rules.specs.Actors.{Actors, fresh_actors}
 use Rattle.scenario_text.specs.declared.scenario.ScenarioParts.{ScenarioParts}
 use Rattle.scenario_text.specs.Running.{CanRun}
@@ -31,7 +32,7 @@ fresh_is d programs t low =
       posting = None;
       given = [];
       posters = λ queue. fresh_poster (queue_start d queue);
-      polls = fresh_poll d;
+      polls = fresh_rule d;
       ended = b;
     }) (sym (ap (λ (b : Bool). not (b && nat_le (suc t) (length programs))) some ∙ ap not most))
 

@@ -1,37 +1,10 @@
--- The send queues that complete to a completion queue: the rule of threads and the side that polls name the same ones, each at its place.
-use Rattle.std.proofs.Common.{◌≡◌, ◌≢◌, ◌⊎◌, inl, inr, ℕ, zero, suc, ◌+◌, ◌-◌, ◌≤◌, ◌<◌, ◌==◌, arith, refl, sym, ap, ◌∙◌, subst, true, false, Bool, not, cond, if◌then◌else◌, List, [], ◌∷◌, length, map, filter, get_or, slice_get, position, nat_lt, Option, None, Some, is_some}
-use Rattle.std.specs.List.{enumerate_from, range_with_len, position_or_len}
-use Rattle.std.proofs.lemmas.Bool.{cases_Bool, false≢true}
+-- Numbers of a range that pass a test, each at its place.
+use Rattle.std.proofs.Common.{◌≡◌, ◌≢◌, ℕ, zero, suc, ◌+◌, ◌≤◌, ◌<◌, ◌==◌, arith, refl, sym, ap, ◌∙◌, subst, true, false, Bool, cond, List, [], ◌∷◌, length, filter, get_or, slice_get, position, nat_lt, Option, None, Some, is_some, inl, inr}
+use Rattle.std.specs.List.{range_with_len, position_or_len}
+use Rattle.std.proofs.lemmas.Bool.{cases_Bool, eqb-true, eqb-false, false≢true}
 use Rattle.std.proofs.lemmas.List.Sums.{position_or_len_is}
 use Rattle.std.proofs.lemmas.Option.{slice_get_within, get_or_from_slice_get}
 use Rattle.std.proofs.lemmas.Bool.Decides.{nat_tests}
-use Rattle.verbs_types.specs.declared.declaration.Lines.{Lines}
-use Rattle.verbs_types.specs.declared.declaration.QpLine.{QpLine}
-use Rattle.verbs_types.specs.declared.declaration.TheConstants.{FIRST_QP}
-use Rattle.object_places.specs.Places.{no_qp, qp_line, completions_of}
-use Rattle.provider_poll.specs.Fresh.{completes_to, senders}
-use Rattle.provider_poll.specs.Fresh as side
-use Rattle.actor_rules.specs.Thread.{completes_into, completing, poll_place}
-
--- the lines from one place on
-module _ (d : Lines) (cq : ℕ) where
-  from : (k : ℕ) (ls : List QpLine) → ((i : ℕ) → get_or d.qps (k + i) no_qp ≡ get_or ls i no_qp)
-      → map (λ (p : ℕ × QpLine). FIRST_QP + p.0) (filter (completes_into cq) (enumerate_from k ls)) ≡ filter (completes_to d cq) (range_with_len (FIRST_QP + k) (length ls))
-  from k [] same = refl
-  from k (l ∷ ls) same =
-      let here : completes_to d cq (FIRST_QP + k) ≡ (l.send_cq == cq) = ap (λ (n : ℕ). (get_or d.qps n no_qp).send_cq == cq) (omega arith) ∙ ap (λ (q : QpLine). q.send_cq == cq) (same 0) in
-      let rest = from (k + 1) ls (λ i. ap (λ (n : ℕ). get_or d.qps n no_qp) (omega arith) ∙ same (suc i)) in
-      let on : filter (completes_to d cq) (range_with_len (FIRST_QP + (k + 1)) (length ls)) ≡ filter (completes_to d cq) (range_with_len (FIRST_QP + k + 1) (length ls)) = ap (λ (n : ℕ). filter (completes_to d cq) (range_with_len n (length ls))) (omega arith) in
-      elim (cases_Bool (l.send_cq == cq)) [
-        | inl into ↦ rw into (rw (here ∙ into) (ap (λ (ns : List ℕ). (FIRST_QP + k) ∷ ns) (rest ∙ on)))
-        | inr other ↦ rw other (rw (here ∙ other) (rest ∙ on))
-      ]
-
-  pub completing_is : completing d cq ≡ senders d cq
-  completing_is = from 0 d.qps (λ i. let e : 0 + i ≡ i = omega arith in ap (λ (n : ℕ). get_or d.qps n no_qp) e)
-
-  pub poll_place_is : side.poll_place d cq ≡ poll_place d cq
-  poll_place_is = λ i. record { cq = completions_of d cq; queues = map (side.sender_place d) (sym completing_is i) }
 
 none_at : (k n : ℕ) → slice_get {X = ℕ} [] k ≡ Some n → ⊥
 none_at zero n is = false≢true (ap is_some is)
@@ -92,3 +65,27 @@ module _ (test : ℕ → Bool) where
       (λ within. let there = get_or_from_slice_get ns i n 0 found in grind (arith, there)) in
       let low : nat_lt i (length ns) ≡ true = grind (arith, inside) in
       ap (λ (k : ℕ). cond (nat_lt k (length ns)) (Some k) None) first ∙ ap (λ (b : Bool). cond b (Some i) None) low
+
+  -- it passes the test
+  pub passes : (least count k n : ℕ) → slice_get (filter test (range_with_len least count)) k ≡ Some n → test n ≡ true
+  passes least zero k n found = absurd (none_at k n found)
+  passes least (suc count) k n found = by (λ j is. passes (least + 1) count j n is) (test least) refl k found
+    where
+      by : ((j : ℕ) → slice_get (filter test (range_with_len (least + 1) count)) j ≡ Some n → test n ≡ true) → (b : Bool) → test least ≡ b → (j : ℕ) → slice_get (cond b (least ∷ filter test (range_with_len (least + 1) count)) (filter test (range_with_len (least + 1) count))) j ≡ Some n → test n ≡ true
+      by rest true good zero is = subst (λ (m : ℕ). test m ≡ true) (ap (number_in least) is) good
+      by rest true good (suc j) is = rest j is
+      by rest false fails j is = rest j is
+
+  -- and whatever passes is there
+  pub is_there : (least count n : ℕ) → least ≤ n → n < least + count → test n ≡ true → (k : ℕ) × (slice_get (filter test (range_with_len least count)) k ≡ Some n)
+  is_there least zero n low high good = absurd (omega (arith, low, high))
+  is_there least (suc count) n low high good = by (λ apart. is_there (least + 1) count n (omega (arith, low, apart)) (omega (arith, high)) good) (least == n) refl (test least) refl
+    where
+      abbrev Rest : Type 0
+      Rest = (k : ℕ) × (slice_get (filter test (range_with_len (least + 1) count)) k ≡ Some n)
+
+      by : (least ≢ n → Rest) → (same : Bool) → (least == n) ≡ same → (b : Bool) → test least ≡ b → (k : ℕ) × (slice_get (cond b (least ∷ filter test (range_with_len (least + 1) count)) (filter test (range_with_len (least + 1) count))) k ≡ Some n)
+      by rest true e true t = (0, ap Some (eqb-true least n e))
+      by rest true e false t = absurd (false≢true (sym t ∙ (ap test (eqb-true least n e) ∙ good)))
+      by rest false e true t = let more = rest (eqb-false least n e) in (suc more.0, more.1)
+      by rest false e false t = rest (eqb-false least n e)
