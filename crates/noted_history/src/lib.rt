@@ -4,11 +4,9 @@
 
 mod entries;
 mod log;
-mod marks;
 mod numbers;
 mod posting;
 mod teller;
 
 pub use entries::history_of;
-pub use log::{Noted, TurnRecord, TurnResult};
-pub use marks::marks_of;
+pub use log::Noted;

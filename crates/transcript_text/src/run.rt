@@ -7,7 +7,7 @@ ghost use Rattle.transcript_text.specs.Trace.{IsOperation, trace_text};
 use crate::history::put_history;
 use crate::trace::{put_trace, room};
 use crate::writer::TextWriter;
-use bus_core::BusEntry;
+use bus_core::TraceEntry;
 use std::alloc::Global;
 use verbs_types::{Declared, Entry, NoMemory};
 
@@ -20,7 +20,7 @@ pub fn print_run(
     alloc: Global,
     declared: &Declared,
     history: &[Entry],
-    trace: &[BusEntry],
+    trace: &[TraceEntry],
     marks: &[bool],
 ) -> Result<Vec<u8>, NoMemory>
     requires entries { All (IsEntry declared.now) history.now }

@@ -9,7 +9,7 @@ use crate::actor_names::{actor_names, name_of};
 use crate::history::put_end;
 use crate::line::{LineEnd, NameEnd};
 use crate::writer::TextWriter;
-use bus_core::{BusEntry, BusOp};
+use bus_core::{BusEntry, BusOp, TraceEntry};
 use std::alloc::Global;
 use verbs_types::{Declared, Lines, NoMemory};
 
@@ -26,7 +26,7 @@ const AFTER_ACTOR: usize = 53;
 pub fn print_trace(
     alloc: Global,
     declared: &Declared,
-    trace: &[BusEntry],
+    trace: &[TraceEntry],
     marks: &[bool],
 ) -> Result<Vec<u8>, NoMemory>
     requires lengths { length marks.now ≡ length trace.now }
@@ -60,7 +60,7 @@ pub(crate) fn put_trace(
     alloc: Global,
     out: &mut TextWriter,
     lines: &Lines,
-    trace: &[BusEntry],
+    trace: &[TraceEntry],
     marks: &[bool],
 ) -> Result<(), NoMemory>
     requires lengths { length marks.now ≡ length trace.now }
@@ -76,7 +76,7 @@ fn put_operations(
     alloc: Global,
     out: &mut TextWriter,
     lines: &Lines,
-    trace: &[BusEntry],
+    trace: &[TraceEntry],
     marks: &[bool],
 ) -> Result<(), NoMemory>
     requires lengths { length marks.now ≡ length trace.now }
@@ -87,8 +87,9 @@ fn put_operations(
     let names = actor_names(alloc, lines)?;
     let mut line = LineEnd::new();
     for (entry, marked) in trace.iter().zip(marks) {
+        let entry = entry.entry();
         let name = name_of(names.as_slice(), entry.actor);
-        put_operation(out, &mut line, name, entry, *marked)?;
+        put_operation(out, &mut line, name, &entry, *marked)?;
     }
     Ok(())
 }
