@@ -73,7 +73,7 @@ posted_with posted (Some (Post queue items)) = put same_queue posted queue (post
 posted_with posted _ = posted
 
 abbrev pub after_by : Lines → Actors → ℕ → Marked Mark → Actors
-after_by d w zero x = record { adapter = after_adapt d w.adapter x.entry; threads = w.threads; posted = w.posted }
+after_by d w zero x = record w { adapter = after_adapt d w.adapter x.entry }
 after_by d w (suc t) x = record {
   adapter = w.adapter;
   threads = put_number w.threads (suc t) (after_thread d (w.threads (suc t)) x);

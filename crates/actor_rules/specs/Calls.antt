@@ -20,7 +20,7 @@ pub record MayEnd (t : Thread) (number : ℕ) (x : Marked Mark) : Type 0 where
   pub sets : IsSetBits ENDED_WORD (2 ^ number) x.entry
 
 abbrev pub ended : Thread → Thread
-ended t = record { calls = t.calls; posting = t.posting; given = t.given; posters = t.posters; polls = t.polls; ended = true }
+ended t = record t { ended = true }
 
 -- in a call of this shape
 abbrev pub MayIn : Lines → Thread → Shape → Marked Mark → Type 0

@@ -85,14 +85,7 @@ calls_after cq (Once most) calls rest = calls_after_poll calls rest
 calls_after cq (Until count) calls rest = calls_after_drain calls cq count rest
 
 abbrev pub after_poll : Lines → Thread → ℕ → ℕ → Marked Mark → (Step Completion PollAnswer → List Call) → Thread
-after_poll d t cq most x calls = record {
-  calls = calls (polled d t cq most x).answer;
-  posting = t.posting;
-  given = given_after t.given (polled d t cq most x).answer;
-  posters = t.posters;
-  polls = put_number t.polls cq (after_poll_side (poll_place d cq) (poll_now t cq most) (poll_mark d cq x.mark) x.entry);
-  ended = t.ended;
-}
+after_poll d t cq most x calls = record t { calls = calls (polled d t cq most x).answer; given = given_after t.given (polled d t cq most x).answer; polls = put_number t.polls cq (after_poll_side (poll_place d cq) (poll_now t cq most) (poll_mark d cq x.mark) x.entry) }
 
 -- a poll loads, until it has as many as were asked for or has found no more
 abbrev pub is_loading : PollState → Bool

@@ -37,14 +37,7 @@ calls_after_post None calls rest = rest
 calls_after_post (Some call) calls rest = calls
 
 abbrev pub after_post : Lines → Thread → Queue → List Item → BusEntry → List Call → Thread
-after_post d t queue items e rest = record {
-  calls = calls_after_post (post_side_call (queue_place d queue) (post_now t queue (length items)) e) t.calls rest;
-  posting = post_side_call (queue_place d queue) (post_now t queue (length items)) e;
-  given = t.given;
-  posters = put same_queue t.posters queue (post_side_poster (queue_place d queue) (post_now t queue (length items)) e);
-  polls = t.polls;
-  ended = t.ended;
-}
+after_post d t queue items e rest = record t { calls = calls_after_post (post_side_call (queue_place d queue) (post_now t queue (length items)) e) t.calls rest; posting = post_side_call (queue_place d queue) (post_now t queue (length items)) e; posters = put same_queue t.posters queue (post_side_poster (queue_place d queue) (post_now t queue (length items)) e) }
 
 abbrev pub post_says : Lines → Thread → Queue → List Item → BusEntry → Option What
 post_says d t queue items e = post_side_entry (queue_place d queue) queue items (post_now t queue (length items)) e

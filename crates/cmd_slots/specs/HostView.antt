@@ -107,4 +107,4 @@ Asks slot c (Some task) = (task.command ≡ c) × IsQuestion slot c task.words
 
 -- an idle host that asked what was rung for
 abbrev pub forgotten : HostView → HostView
-forgotten h = record { slot = h.slot; side = record { asked = h.side.asked; stage = Resting }; task = None; seen = h.seen }
+forgotten h = record h { side = record { asked = h.side.asked; stage = Resting }; task = None }

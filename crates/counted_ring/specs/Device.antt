@@ -38,17 +38,17 @@ pub record MayRead (place : WqPlace) (d : WqReader) (e : BusEntry) : Type 0 wher
   pub load : IsLoad (word_at place d.next (length d.words)) e
 
 abbrev pub after_look : WqReader → BusEntry → WqReader
-after_look d e = record { next = d.next; ready = d.ready; register = loaded e; words = d.words }
+after_look d e = record d { register = loaded e }
 
 abbrev pub passed : WqReader → WqReader
-passed d = record { next = d.next + 1; ready = d.ready - 1; register = d.register; words = d.words }
+passed d = record d { next = d.next + 1; ready = d.ready - 1 }
 
 abbrev pub pass_if : Bool → WqReader → WqReader
 pass_if true d = passed d
 pass_if false d = d
 
 abbrev pub after_record : WqReader → Bool → BusEntry → WqReader
-after_record d passes e = pass_if passes (record { next = d.next; ready = shown d.next (loaded e); register = d.register; words = d.words })
+after_record d passes e = pass_if passes (record d { ready = shown d.next (loaded e) })
 
 abbrev pub is_whole : WqPlace → ℕ → List ℕ → Bool
 is_whole place ready words = length words == reach place ready (slice_index words 0) * place.stride
@@ -57,7 +57,7 @@ is_whole place ready words = length words == reach place ready (slice_index word
 abbrev pub reader_with : WqPlace → WqReader → List ℕ → WqReader
 reader_with place d words =
     if is_whole place d.ready words then record { next = d.next + reach place d.ready (slice_index words 0); ready = d.ready - reach place d.ready (slice_index words 0); register = d.register; words = [] }
-    else record { next = d.next; ready = d.ready; register = d.register; words = words }
+    else record d { words = words }
 
 abbrev pub after_read : WqPlace → WqReader → BusEntry → WqReader
 after_read place d e = reader_with place d (d.words ++ loaded e ∷ [])

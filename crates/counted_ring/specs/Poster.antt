@@ -23,11 +23,11 @@ pub record Poster : Type 0 where
   pub stage : Stage
 
 abbrev pub at_stage : Poster → Stage → Poster
-at_stage p stage = record { count = p.count; index = p.index; first = p.first; seen = p.seen; stage = stage }
+at_stage p stage = record p { stage = stage }
 
 -- the poster that has loaded this tail
 abbrev pub at_tail : Poster → ℕ → Poster
-at_tail p tail = record { count = p.count; index = p.index; first = p.first; seen = tail; stage = p.stage }
+at_tail p tail = record p { seen = tail }
 
 abbrev pub has_room : WqPlace → Poster → BusEntry → Bool
 has_room place p e = nat_lt (outstanding p.count (loaded e)) place.max_post

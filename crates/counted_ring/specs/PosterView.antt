@@ -106,4 +106,4 @@ fresh place index = record { place = place; side = fresh_side index; rung = rung
 
 -- an idle poster that has posted only what was rung; the tail that it loaded it keeps
 abbrev pub forgotten : PosterView → PosterView
-forgotten p = record { place = p.place; side = back_to p.rung p.side; rung = p.rung; task = None }
+forgotten p = record p { side = back_to p.rung p.side; task = None }

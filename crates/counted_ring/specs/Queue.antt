@@ -91,24 +91,18 @@ MayHappen place q (Counted ready passes) = MayCount q ready passes
 MayHappen place q (Took words) = MayTake q words
 
 abbrev pub after_count : Queue → Bool → Queue
-after_count q true = record { requests = q.requests; next = q.next; rung = q.rung; taken = q.taken + 1; retired = q.retired }
+after_count q true = record q { taken = q.taken + 1 }
 after_count q false = q
 
 abbrev pub after_event : WqPlace → Queue → WqEvent → Queue
-after_event place q (Wrote words id) = record {
-  requests = q.requests ++ record { index = q.next; words = words; id = id } ∷ [];
-  next = q.next + span place (slice_index words 0);
-  rung = q.rung;
-  taken = q.taken;
-  retired = q.retired;
-}
+after_event place q (Wrote words id) = record q { requests = q.requests ++ record { index = q.next; words = words; id = id } ∷ []; next = q.next + span place (slice_index words 0) }
 after_event place q (Full head tail) = q
-after_event place q Rang = record { requests = q.requests; next = q.next; rung = length q.requests; taken = q.taken; retired = q.retired }
+after_event place q Rang = record q { rung = length q.requests }
 after_event place q (Named counter id) = q
 after_event place q (Found counter id end) = q
-after_event place q (Retired end) = record { requests = q.requests; next = q.next; rung = q.rung; taken = q.taken; retired = end }
+after_event place q (Retired end) = record q { retired = end }
 after_event place q (Counted ready passes) = after_count q passes
-after_event place q (Took words) = record { requests = q.requests; next = q.next; rung = q.rung; taken = q.taken + 1; retired = q.retired }
+after_event place q (Took words) = record q { taken = q.taken + 1 }
 
 abbrev pub IsLegal : WqPlace → Queue → List WqEvent → Type 0
 IsLegal place q events = Follows (MayHappen place) (after_event place) q events

@@ -31,4 +31,4 @@ rung_after _ p rung = rung
 
 -- what is left of a list where the poster drops the requests that it did not ring for
 abbrev pub unrung : Queue → Queue
-unrung q = record { requests = take q.rung q.requests; next = index_of q q.rung; rung = q.rung; taken = q.taken; retired = q.retired }
+unrung q = record q { requests = take q.rung q.requests; next = index_of q q.rung }

@@ -71,4 +71,4 @@ pub record ArmerTurn (old new : ArmerView) (e : BusEntry) (answer : Step (Unit {
 
 -- an armer that drops what it is at
 abbrev pub forgotten : ArmerView → ArmerView
-forgotten a = record { place = a.place; side = record { last = a.side.last; stage = Ready }; task = None; seen = a.seen }
+forgotten a = record a { side = record { last = a.side.last; stage = Ready }; task = None }

@@ -31,9 +31,9 @@ beside_says (Acknowledge ci) = Some (Acked ci)
 beside_says _ = None
 
 abbrev pub after_by : ArmParty → ArmSides → Marked ArmMark → ArmSides
-after_by ByArmer s x = record { armer = after_arm s.armer x.mark x.entry; reader = s.reader; scanner = s.scanner }
-after_by ByReader s x = record { armer = s.armer; reader = after_raise s.reader x.mark; scanner = s.scanner }
-after_by ByAdapter s x = record { armer = s.armer; reader = s.reader; scanner = after_scan s.scanner x.mark x.entry }
+after_by ByArmer s x = record s { armer = after_arm s.armer x.mark x.entry }
+after_by ByReader s x = record s { reader = after_raise s.reader x.mark }
+after_by ByAdapter s x = record s { scanner = after_scan s.scanner x.mark x.entry }
 after_by Beside s x = s
 
 abbrev pub says_by : ArmParty → ArmSides → Marked ArmMark → Option ArmEvent

@@ -74,4 +74,4 @@ pub record HostTurn (old new : HostView) (e : BusEntry) (answer : Step (Unit {0}
 
 -- a host that goes back to the index that it acknowledged last, and is idle
 abbrev pub forgotten : HostView → HostView
-forgotten h = record { place = h.place; side = Waiting (acked_index h.side) (acked_index h.side); task = None; seen = h.seen }
+forgotten h = record h { side = Waiting (acked_index h.side) (acked_index h.side); task = None }

@@ -72,12 +72,12 @@ MayHappen size q (Empty index) = MayFindNone q index
 MayHappen size q (Acked ci) = MayAcknowledge q ci
 
 abbrev pub after_event : PlainQueue → QueueEvent → PlainQueue
-after_event q (Published index completion) = record { acked = q.acked; polled = q.polled; completions = q.completions ++ completion ∷ []; overrun = q.overrun }
-after_event q (Overrun index ci) = record { acked = q.acked; polled = q.polled; completions = q.completions; overrun = true }
+after_event q (Published index completion) = record q { completions = q.completions ++ completion ∷ [] }
+after_event q (Overrun index ci) = record q { overrun = true }
 after_event q Lost = q
-after_event q (Took index completion) = record { acked = q.acked; polled = index + 1; completions = q.completions; overrun = q.overrun }
+after_event q (Took index completion) = record q { polled = index + 1 }
 after_event q (Empty index) = q
-after_event q (Acked ci) = record { acked = ci; polled = q.polled; completions = drop (ci - q.acked) q.completions; overrun = q.overrun }
+after_event q (Acked ci) = record q { acked = ci; completions = drop (ci - q.acked) q.completions }
 
 abbrev pub IsLegal : ℕ → PlainQueue → List QueueEvent → Type 0
 IsLegal size q events = Follows (MayHappen size) after_event q events

@@ -45,27 +45,11 @@ pub record CanRead (p : Pair) : Type 0 where
 
 -- the pair whose send queue's side has gone on
 abbrev pub with_side : Pair → WqReader → Option DeviceTask → Pair
-with_side p side task = record {
-  requests = record { place = p.requests.place; side = side; task = task };
-  place = p.place;
-  number = p.number;
-  next = p.next;
-  taken = p.taken;
-  may_send = p.may_send;
-  send_cq = p.send_cq;
-}
+with_side p side task = record p { requests = record p.requests { side = side; task = task } }
 
 -- the pair of which a request was taken
 abbrev pub with_request : Pair → WqReader → Option DeviceTask → Pair
-with_request p side task = record {
-  requests = record { place = p.requests.place; side = side; task = task };
-  place = p.place;
-  number = p.number;
-  next = side.next;
-  taken = p.taken + 1;
-  may_send = p.may_send;
-  send_cq = p.send_cq;
-}
+with_request p side task = record p { requests = record p.requests { side = side; task = task }; next = side.next; taken = p.taken + 1 }
 
 -- the pair after a word of an entry
 abbrev pub pair_read : Pair → WqReader → Option DeviceTask → Option WqEvent → Pair

@@ -53,7 +53,7 @@ abbrev pub first_work : Lines → ℕ → AdapterAt
 first_work d qp = if is_among FIRST_QP (length d.qps) qp then Looking else Ending
 
 abbrev pub visiting : Lines → ℕ → AdapterRule → AdapterRule
-visiting d qp s = record { visit = qp; at_work = first_work d qp; taken = s.taken; readers = s.readers; queues = s.queues }
+visiting d qp s = record s { visit = qp; at_work = first_work d qp }
 
 abbrev pub next_visit : Lines → AdapterRule → AdapterRule
 next_visit d s = visiting d (s.visit + 1) s
@@ -62,22 +62,22 @@ abbrev pub first_visit : Lines → AdapterRule → AdapterRule
 first_visit d s = visiting d FIRST_QP s
 
 abbrev pub working : AdapterAt → AdapterRule → AdapterRule
-working work s = record { visit = s.visit; at_work = work; taken = s.taken; readers = s.readers; queues = s.queues }
+working work s = record s { at_work = work }
 
 abbrev pub put_number : {V : Type 0} → (ℕ → V) → ℕ → V → ℕ → V
 put_number f number value = put (λ (m n : ℕ). m == n) f number value
 
 -- the visited pair's side has gone on
 abbrev pub with_reader : WqReader → AdapterRule → AdapterRule
-with_reader r s = record { visit = s.visit; at_work = s.at_work; taken = s.taken; readers = put_number s.readers s.visit r; queues = s.queues }
+with_reader r s = record s { readers = put_number s.readers s.visit r }
 
 -- one more of the visited pair's requests was taken
 abbrev pub with_taken : AdapterRule → AdapterRule
-with_taken s = record { visit = s.visit; at_work = s.at_work; taken = put_number s.taken s.visit (s.taken s.visit + 1); readers = s.readers; queues = s.queues }
+with_taken s = record s { taken = put_number s.taken s.visit (s.taken s.visit + 1) }
 
 -- a completion queue's side has gone on
 abbrev pub with_queue : ℕ → QueueDevice → AdapterRule → AdapterRule
-with_queue cq q s = record { visit = s.visit; at_work = s.at_work; taken = s.taken; readers = s.readers; queues = put_number s.queues cq q }
+with_queue cq q s = record s { queues = put_number s.queues cq q }
 
 -- it visits the first pair, and has seen nothing
 abbrev pub fresh_adapter : Lines → AdapterRule

@@ -87,4 +87,4 @@ pub record HostTurn (old new : HostView) (e : BusEntry) (answer : Step (Unit {0}
 
 -- a host that goes back to the index that its register shows, and is idle
 abbrev pub forgotten : HostView → HostView
-forgotten h = record { place = h.place; side = Waiting (next_index h.side); taking = false; seen = h.seen }
+forgotten h = record h { side = Waiting (next_index h.side); taking = false }

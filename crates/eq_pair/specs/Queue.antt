@@ -60,10 +60,10 @@ MayHappen size q (NoEvent index) = MayFindNone q index
 MayHappen size q (Gave index event) = MayGive q index event
 
 abbrev pub after_event : EventList → EqEvent → EventList
-after_event q (Written index event) = record { written = q.written ++ event ∷ []; given = q.given; taken = q.taken }
-after_event q (Took index event) = record { written = q.written; given = q.given; taken = index + 1 }
+after_event q (Written index event) = record q { written = q.written ++ event ∷ [] }
+after_event q (Took index event) = record q { taken = index + 1 }
 after_event q (NoEvent index) = q
-after_event q (Gave index event) = record { written = q.written; given = index + 1; taken = q.taken }
+after_event q (Gave index event) = record q { given = index + 1 }
 
 abbrev pub IsLegal : ℕ → EventList → List EqEvent → Type 0
 IsLegal size q events = Follows (MayHappen size) after_event q events

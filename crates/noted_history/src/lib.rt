@@ -12,3 +12,5 @@ mod teller;
 pub use entries::history_of;
 pub use log::{Noted, TurnRecord, TurnResult};
 pub use marks::marks_of;
+pub use posting::Posting;
+pub use teller::Teller;

@@ -7,9 +7,10 @@ ghost use Rattle.noted_history.specs.Posting.{IsNext, TakesNext, list_of, lists_
 use std::alloc::{AllocError, Global};
 use verbs_types::{Call, Item, NoMemory, Receive, Request};
 
-/// How many of a thread's calls are behind, where calls that do not post are passed over.
+/// How many of a thread's calls are behind, where calls that do not post are passed over. A call that posts is behind
+/// once its last entry is told.
 #[derive(Clone, Copy, Debug, PartialEq, Eq)]
-pub(crate) struct Posting {
+pub struct Posting {
     pub behind: usize,
 }
 

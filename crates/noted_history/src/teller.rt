@@ -11,9 +11,10 @@ use std::alloc::Global;
 use verbs_model::Abstract;
 use verbs_types::{Call, CheckFault, Entry, NoMemory, Sequence, What};
 
-/// How far a history is told.
+/// How far a history is told, one entry after another. `history_of` is its fold over the notes of a run; who has notes
+/// in another form, of several actors say, takes its steps.
 #[derive(Drop)]
-pub(crate) struct Teller {
+pub struct Teller {
     /// The state that its entries so far lead to.
     pub state: Abstract,
     /// How many calls of each thread are behind.
@@ -32,7 +33,10 @@ impl Teller {
         })
     }
 
-    /// The next entry, by its actor and its note.
+    /// The next entry, by its actor and its note. The note has to tell an entry of which the state has a step and which
+    /// its thread owes; then there is just one.
+    ///
+    /// `NoMemory` says that memory ran out, and nothing else.
     pub fn entry(
         &mut self,
         alloc: Global,

@@ -16,9 +16,9 @@ use Rattle.actor_rules.specs.Ready.{IsOwnCall, IsOwnIn}
 use Rattle.actor_rules.specs.Thread.{Thread, fresh_thread}
 use Rattle.operation_bounds.specs.Calls.{CallsEnd, is_drain, most_operations, is_until, parts_in}
 use Rattle.operation_bounds.specs.Stretch.{thread_by}
-use Rattle.operation_bounds.proofs.Polls.{poll_few}
+use Rattle.provider_poll.proofs.LeftLoads.{poll_few}
 use Rattle.operation_bounds.proofs.PollSteps.{begun_goes}
-use Rattle.operation_bounds.proofs.Posts.{post_few}
+use Rattle.provider_post.proofs.Left.{post_few}
 use Rattle.operation_bounds.proofs.PostSteps.{posting_now}
 use Rattle.operation_bounds.proofs.Steps.{Keeps, step, stands_after, shrinks_all}
 use Rattle.actor_rules.specs.Holding.{IsMapped}
@@ -30,7 +30,7 @@ few_left : (d : Lines) (programs : List (List Call)) (x : ℕ) (t : Thread) (sha
 few_left d programs x t (Posts queue items) own work plain =
     let few = post_few (length items) (t.posters queue).stage (unwrap_or t.posting (fresh_call (length items))) (posting_now (length items) t.posting work.posting) in omega (arith, few.1)
 few_left d programs x t (Takes cq (Once most)) own work plain =
-    let few = poll_few most t.given (t.polls cq).host (t.polls cq).retirers (begun most (t.polls cq).state) (begun_goes most t.given (t.polls cq).state own.1 work.poll) in omega (arith, few.1)
+    let few = poll_few most (length t.given) (t.polls cq).host (t.polls cq).retirers (begun most (t.polls cq).state) (begun_goes most t.given (t.polls cq).state own.1 work.poll) in omega (arith, few.1)
 few_left d programs x t (Takes cq (Until count)) own work plain = absurd (false≢true (sym plain))
 
 module _ (d : Lines) (programs : List (List Call)) (x : ℕ) (map_ok : IsMapped d) (call : Call) (rest : List Call) (plain : is_drain call ≡ false) where

@@ -22,7 +22,7 @@ use Rattle.actor_rules.specs.Polling.{MayPoll as MayPollIn, begun, poll_now, pol
 use Rattle.actor_rules.specs.Thread.{Thread, fresh_thread, poll_place}
 use Rattle.operation_bounds.specs.Drains.{DrainsLook, HasNoLook, IsLook}
 use Rattle.operation_bounds.specs.Stretch.{thread_by}
-use Rattle.operation_bounds.proofs.Polls.{IsWaiting, poll_few}
+use Rattle.provider_poll.proofs.LeftLoads.{IsWaiting, poll_few}
 use Rattle.operation_bounds.proofs.PollSteps.{begun_goes}
 use Rattle.operation_bounds.proofs.Steps.{Keeps, step, stands_after, shrinks_all}
 use Rattle.actor_rules.specs.Holding.{IsMapped}
@@ -48,7 +48,7 @@ look_first d x t cq count rest op is idle waits may =
 pub drain_few : (d : Lines) (programs : List (List Call)) (x : ℕ) (t : Thread) (cq count : ℕ) (rest : List Call) → Stands d programs x t → t.calls ≡ Drain cq count ∷ rest → (0 < left_of t t.calls) × (left_of t t.calls ≤ 12)
 drain_few d programs x t cq count rest h is =
     let work : IsInPoll t cq 1 = subst (IsAtCall t) is h.work in
-    let few = poll_few 1 t.given (t.polls cq).host (t.polls cq).retirers (begun 1 (t.polls cq).state) (begun_goes 1 t.given (t.polls cq).state (omega arith) work.poll) in
+    let few = poll_few 1 (length t.given) (t.polls cq).host (t.polls cq).retirers (begun 1 (t.polls cq).state) (begun_goes 1 t.given (t.polls cq).state (omega arith) work.poll) in
     let left = ap (left_of t) is in (omega (arith, few.0, left), omega (arith, few.1, left))
 
 module _ (d : Lines) (programs : List (List Call)) (x : ℕ) (map_ok : IsMapped d) (cq : ℕ) (rest : List Call) where

@@ -30,7 +30,7 @@ use Rattle.operation_bounds.specs.Stretch.{thread_by}
 use Rattle.operation_bounds.proofs.DrainsLook.{drain_few}
 use Rattle.operation_bounds.proofs.Looks.{look_takes}
 use Rattle.operation_bounds.proofs.Lookups.{looks_elsewhere}
-use Rattle.operation_bounds.proofs.Polls.{IsUnderWay}
+use Rattle.provider_poll.proofs.LeftLoads.{IsUnderWay}
 use Rattle.operation_bounds.proofs.PollSteps.{begun_goes, later, side}
 use Rattle.operation_bounds.proofs.Steps.{Keeps, step, stands_after}
 use Rattle.operation_bounds.proofs.Stretches.{follows_first, follows_rest}
@@ -46,7 +46,7 @@ taking_begun c (states.LookingUp max ends completion queue) h = (tt, refl)
 taking_begun c (states.Retiring taken empty left) h = absurd h
 taking_begun c (states.Acking taken empty) h = absurd h
 
-none_given : (given : List Completion) (c : Consumer) (state : PollState) → IsTaking c state → IsUnderWay 1 given state → given ≡ []
+none_given : (given : List Completion) (c : Consumer) (state : PollState) → IsTaking c state → IsUnderWay 1 (length given) state → given ≡ []
 none_given given c states.Idle h under = absurd h
 none_given given c (states.Polling max ends) h under = nil_from_length given (omega (arith, under.few, under.given_are))
 none_given given c (states.LookingUp max ends completion queue) h under = nil_from_length given (omega (arith, under.few, under.given_are))
@@ -75,7 +75,7 @@ module _ (d : Lines) (programs : List (List Call)) (x : ℕ) (map_ok : IsMapped 
   state_now : PollState
   state_now = begun 1 (t.polls cq).state
 
-  under : IsUnderWay 1 t.given (begun 1 (t.polls cq).state)
+  under : IsUnderWay 1 (length t.given) (begun 1 (t.polls cq).state)
   under = begun_goes 1 t.given (t.polls cq).state (omega arith) work.poll
 
   -- where the poll answers that it goes on
@@ -88,14 +88,14 @@ module _ (d : Lines) (programs : List (List Call)) (x : ℕ) (map_ok : IsMapped 
   pub look_begins : ShowsOwned d cq t op → Taking (after_thread d t op) cq count rest
   look_begins shows =
       let own = (subst (AllByRecursion (IsOwnCall d programs x)) is h.own).0 in
-      let begins = look_takes (poll_place d cq) t.given (t.polls cq).seen (t.polls cq).retirers op.entry (t.polls cq).host (begun 1 (t.polls cq).state) (poll_mark d cq op.mark) (h.hosts cq) under may_poll.goes_on shows.look shows.owned
+      let begins = look_takes (poll_place d cq) (length t.given) (t.polls cq).seen (t.polls cq).retirers op.entry (t.polls cq).host (begun 1 (t.polls cq).state) (poll_mark d cq op.mark) (h.hosts cq) under may_poll.goes_on shows.look shows.owned
       (λ max ends completion queue goes. looks_elsewhere d cq map_ok own.0.lives (poll_now t cq 1) op.entry (next_index (t.polls cq).host) shows.look completion queue max ends op.mark may_poll.on goes) in
       more_is begins.0 begins.1
 
   -- an operation of it goes on, or tells that it took the entry
   pub takes : IsTaking (t.polls cq).host (t.polls cq).state → Taking (after_thread d t op) cq count rest ⊎ TakesOne cq (thread_says d t op)
   takes taking = by (polled d t cq 1 op).answer refl
-      (take_goes (poll_place d cq) t.given (t.polls cq).host (t.polls cq).seen (t.polls cq).retirers op.entry (begun 1 (t.polls cq).state) (poll_mark d cq op.mark) under (taking_begun (t.polls cq).host (t.polls cq).state taking).0 may_poll.goes_on)
+      (take_goes (poll_place d cq) (length t.given) (t.polls cq).host (t.polls cq).seen (t.polls cq).retirers op.entry (begun 1 (t.polls cq).state) (poll_mark d cq op.mark) under (taking_begun (t.polls cq).host (t.polls cq).state taking).0 may_poll.goes_on)
     where
       loads : is_loading (begun 1 (t.polls cq).state) ≡ true
       loads = (taking_begun (t.polls cq).host (t.polls cq).state taking).1

@@ -1,6 +1,4 @@
 pub mod Posts
-pub mod Polls
-pub mod PollStores
 pub mod Threads
 pub mod PostSteps
 pub mod PollSteps

@@ -18,7 +18,7 @@ use Rattle.provider_poll.specs.declared.state.PollState.{PollState}
 use Rattle.provider_poll.specs.declared.state.PollState.TheVariants as states
 use Rattle.provider_poll.specs.Rule.{PollPlace, PollRule, PollMark, OnHost, OnQueue, IsNextOf, MayGoOn, MayRetireFirst}
 use Rattle.provider_poll.specs.RuleStep.{poll_side_step, after_poll_side}
-use Rattle.operation_bounds.proofs.Polls.{IsHost, IsUnderWay}
+use Rattle.provider_poll.proofs.LeftLoads.{IsHost, IsUnderWay}
 use Rattle.operation_bounds.proofs.Takes.{IsTaking, look_begins}
 
 -- it is no load of a word before the last one
@@ -29,7 +29,7 @@ other_word base a b k few same = omega (arith, few, same)
 no_store : (a b value : ℕ) (e : BusEntry) → IsLoad a e → IsStore b value e → ⊥
 no_store a b value e load store = let same = sym load.op ∙ store.op in cc
 
-module _ (place : PollPlace) (given : List Completion) (seen : ℕ) (rs : List Retirer) (e : BusEntry) where
+module _ (place : PollPlace) (given : ℕ) (seen : ℕ) (rs : List Retirer) (e : BusEntry) where
   abbrev pub at_side : Consumer → PollState → PollRule
   at_side c state = record { host = c; seen = seen; retirers = rs; state = state }
 

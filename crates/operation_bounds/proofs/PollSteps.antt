@@ -1,7 +1,8 @@
 -- What an operation of a poll or of a drain makes of its thread.
-use Rattle.std.proofs.Common.{◌≡◌, ◌≢◌, ℕ, ◌-◌, ◌<◌, ◌==◌, nat_le, refl, sym, ap, ◌∙◌, subst, arith, Bool, true, false, if◌then◌else◌, List, ◌∷◌, length}
+use Rattle.std.proofs.Common.{◌≡◌, ◌≢◌, ℕ, ◌-◌, ◌<◌, ◌==◌, nat_le, refl, sym, ap, ◌∙◌, subst, arith, Bool, true, false, if◌then◌else◌, List, [], ◌∷◌, length}
 use Rattle.std.specs.List.{AllByRecursion}
 use Rattle.std.proofs.lemmas.Bool.{leb-false}
+use Rattle.std.proofs.lemmas.List.{length-append}
 use Rattle.bus_core.specs.declared.turn.Step.{Step}
 use Rattle.bus_core.specs.declared.turn.Step.TheVariants.{More, Gave, Done}
 use Rattle.bus_core.specs.Mark.{Marked}
@@ -21,19 +22,20 @@ use Rattle.actor_rules.specs.Polling.{MayPoll, begun, poll_now, poll_mark, polle
 use Rattle.actor_rules.specs.Ready.{IsOwnCall}
 use Rattle.actor_rules.specs.Thread.{Thread, poll_place}
 use Rattle.actor_rules.proofs.Threading.{put_here, put_there, put_all}
-use Rattle.operation_bounds.proofs.Polls.{IsHost, IsWaiting, IsUnderWay, Goes, poll_left}
-use Rattle.operation_bounds.proofs.PollStores.{poll_goes}
+use Rattle.provider_poll.specs.Left.{poll_left}
+use Rattle.provider_poll.proofs.LeftLoads.{IsHost, IsWaiting, IsUnderWay, Goes, host_in}
+use Rattle.provider_poll.proofs.LeftStores.{poll_goes}
 use Rattle.operation_bounds.proofs.Threads.{IsInPoll, IsPollAt, IsResting, IsAtCall, Stands, Went, Over, On, Again, begins, left_of, poll_now_left}
 
 -- a poll that is about to begin is under way with its first operation
-pub begun_goes : (most : ℕ) (given : List Completion) (state : PollState) → 0 < most → IsPollAt most given state → IsUnderWay most given (begun most state)
+pub begun_goes : (most : ℕ) (given : List Completion) (state : PollState) → 0 < most → IsPollAt most given state → IsUnderWay most (length given) (begun most state)
 begun_goes most given states.Idle some h = record { asked = refl; few = some; given_are = ap length h }
 begun_goes most given (states.Polling max ends) some h = h
 begun_goes most given (states.LookingUp max ends c queue) some h = h
 begun_goes most given (states.Retiring taken empty left) some h = h
 begun_goes most given (states.Acking taken empty) some h = h
 
-under_way : (most : ℕ) (given : List Completion) (state : PollState) → IsUnderWay most given state → IsPollAt most given state × (begun most state ≡ state)
+under_way : (most : ℕ) (given : List Completion) (state : PollState) → IsUnderWay most (length given) state → IsPollAt most given state × (begun most state ≡ state)
 under_way most given states.Idle h = absurd h
 under_way most given (states.Polling max ends) h = (h, refl)
 under_way most given (states.LookingUp max ends c queue) h = (h, refl)
@@ -68,14 +70,14 @@ Answers d t cq most op (Gave completion) = GoesOn d t cq most op (Gave completio
 Answers d t cq most op (Done answer) = IsOver d t cq most op answer
 
 module _ (d : Lines) (programs : List (List Call)) (x : ℕ) (t : Thread) (cq most : ℕ) (op : Marked Mark) (h : Stands d programs x t) (some : 0 < most) (p : IsInPoll t cq most) (may : MayPoll d t cq most op) where
-  goes : IsHost (side d t cq most op).host × Goes most t.given (poll_now_left t cq most) (side d t cq most op) (polled d t cq most op).answer
-  goes = poll_goes (poll_place d cq) most t.given (t.polls cq).host (t.polls cq).seen (t.polls cq).retirers op.entry (begun most (t.polls cq).state) (poll_mark d cq op.mark) (h.hosts cq) (begun_goes most t.given (t.polls cq).state some p.poll) may.goes_on
+  goes : (IsHost (t.polls cq).host → IsHost (side d t cq most op).host) × Goes most (length t.given) (poll_now_left t cq most) (side d t cq most op) (polled d t cq most op).answer
+  goes = poll_goes (poll_place d cq) most (length t.given) (t.polls cq).host (t.polls cq).seen (t.polls cq).retirers op.entry (begun most (t.polls cq).state) (poll_mark d cq op.mark) (host_in (begun most (t.polls cq).state) (t.polls cq).host (h.hosts cq)) (begun_goes most t.given (t.polls cq).state some p.poll) may.goes_on
 
   here : polls d t cq most op cq ≡ side d t cq most op
   here = put_here t.polls cq (side d t cq most op)
 
   hosts_then : (n : ℕ) → IsHost (polls d t cq most op n).host
-  hosts_then = put_all t.polls cq (side d t cq most op) (λ n r. IsHost r.host) goes.0 (λ other apart. h.hosts other)
+  hosts_then = put_all t.polls cq (side d t cq most op) (λ n r. IsHost r.host) (goes.0 (h.hosts cq)) (λ other apart. h.hosts other)
 
   others : (other : ℕ) → other ≢ cq → (polls d t cq most op other).state ≡ states.Idle
   others other apart = ap (λ (r : PollRule). r.state) (put_there t.polls cq (side d t cq most op) other apart) ∙ p.polls other apart
@@ -83,7 +85,7 @@ module _ (d : Lines) (programs : List (List Call)) (x : ℕ) (t : Thread) (cq mo
   rests : (answer : PollAnswer) (calls : List Call) → (side d t cq most op).state ≡ states.Idle → IsResting (later d t cq most op (Done answer) calls)
   rests answer calls idle = record { posting = p.posting; given = refl; polls = λ other all. put_all t.polls cq (side d t cq most op) (λ n r. r.state ≡ states.Idle) idle (λ i apart. p.polls i apart) other }
 
-  goes_on : (a : Step Completion PollAnswer) → IsUnderWay most (given_after t.given a) (side d t cq most op).state → poll_left (side d t cq most op).host (side d t cq most op).retirers (side d t cq most op).state < poll_now_left t cq most → GoesOn d t cq most op a
+  goes_on : (a : Step Completion PollAnswer) → IsUnderWay most (length (given_after t.given a)) (side d t cq most op).state → poll_left (side d t cq most op).host (side d t cq most op).retirers (side d t cq most op).state < poll_now_left t cq most → GoesOn d t cq most op a
   goes_on a under less =
       let now = side d t cq most op in
       let at = under_way most (given_after t.given a) now.state under in record {
@@ -91,9 +93,9 @@ module _ (d : Lines) (programs : List (List Call)) (x : ℕ) (t : Thread) (cq mo
         falls = λ calls. subst (λ (r : PollRule). poll_left r.host r.retirers (begun most r.state) < poll_now_left t cq most) (sym here) (subst (λ (s : PollState). poll_left now.host now.retirers s < poll_now_left t cq most) (sym at.1) less);
       }
 
-  answers_by : (a : Step Completion PollAnswer) → Goes most t.given (poll_now_left t cq most) (side d t cq most op) a → Answers d t cq most op a
+  answers_by : (a : Step Completion PollAnswer) → Goes most (length t.given) (poll_now_left t cq most) (side d t cq most op) a → Answers d t cq most op a
   answers_by More g = goes_on More g.0 g.1
-  answers_by (Gave completion) g = goes_on (Gave completion) g.0 g.1
+  answers_by (Gave completion) g = goes_on (Gave completion) (subst (λ (n : ℕ). IsUnderWay most n (side d t cq most op).state) (sym (length-append t.given (completion ∷ []))) g.0) g.1
   answers_by (Done answer) g = record { rests = λ calls. rests answer calls g.0; idle = ap (λ (r : PollRule). r.state) here ∙ g.0; waits = subst (λ (r : PollRule). IsWaiting r.host) (sym here) g.1 }
 
   answers : Answers d t cq most op (polled d t cq most op).answer

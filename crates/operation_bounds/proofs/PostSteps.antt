@@ -13,12 +13,14 @@ use Rattle.counted_ring.specs.Poster.{Poster}
 use Rattle.object_places.specs.Objects.{Mark}
 use Rattle.provider_post.specs.declared.call.Call as post
 use Rattle.provider_post.specs.Call.{fresh_call}
+use Rattle.provider_post.specs.Left.{post_left}
 use Rattle.provider_post.specs.Rule.{post_side_poster, post_side_call}
+use Rattle.provider_post.proofs.Left.{IsPosting, Left}
 use Rattle.actor_rules.specs.Posting.{MayPost, post_now, after_post, calls_after_post}
 use Rattle.actor_rules.specs.Ready.{IsOwnCall}
 use Rattle.actor_rules.specs.Thread.{Thread, queue_place}
 use Rattle.actor_rules.proofs.PerQueue.{queue_here, queue_cases}
-use Rattle.operation_bounds.proofs.Posts.{IsStaged, IsPosting, Left, post_left, post_goes}
+use Rattle.operation_bounds.proofs.Posts.{IsStaged, staged_goes}
 use Rattle.operation_bounds.proofs.Threads.{IsPostAt, IsInPost, IsAtCall, Stands, Went, Over, On, begins, left_of, post_now_left}
 
 pub posting_now : (items : ℕ) (posting : Option post.Call) → IsPostAt items posting → IsPosting items (unwrap_or posting (fresh_call items))
@@ -45,7 +47,7 @@ module _ (d : Lines) (programs : List (List Call)) (x : ℕ) (t : Thread) (queue
   later o = record { calls = calls_after_post o t.calls rest; posting = o; given = t.given; posters = posters; polls = t.polls; ended = t.ended }
 
   goes : IsStaged (queue_place d queue) poster.stage × Left (length items) (post_now_left t queue (length items)) poster.stage (post_side_call (queue_place d queue) (post_now t queue (length items)) op.entry)
-  goes = post_goes (queue_place d queue) fine (length items) (t.posters queue) (unwrap_or t.posting (fresh_call (length items))) op.entry (posting_now (length items) t.posting p.stands.posting) (h.staged queue) may.goes_on.brings
+  goes = staged_goes (queue_place d queue) fine (length items) (t.posters queue) (unwrap_or t.posting (fresh_call (length items))) op.entry (posting_now (length items) t.posting p.stands.posting) (h.staged queue) may.goes_on.brings
 
   staged : (other : Queue) → IsStaged (queue_place d other) (posters other).stage
   staged = queue_cases (λ other q. IsStaged (queue_place d other) q.stage) t.posters queue poster goes.0 (λ other apart. h.staged other)

@@ -1,20 +1,19 @@
--- How many operations a call to post still takes.
-use Rattle.std.proofs.Common.{◌≡◌, ℕ, ◌+◌, ◌-◌, ◌*◌, ◌^◌, ◌%◌, ◌<◌, ◌≤◌, ◌==◌, ◌||◌, ◌&&◌, not, nat_le, refl, sym, ap, ◌∙◌, arith, Bool, true, false, if◌then◌else◌, List, [], ◌∷◌, ◌++◌, length, slice_index, Option, None, Some, is_some}
-use Rattle.std.proofs.lemmas.Bool.{eqb-false, false≢true}
+-- The words of an entry that a post stores, and that each brings its call nearer to its end.
+use Rattle.std.proofs.Common.{◌≡◌, ℕ, ◌-◌, ◌*◌, ◌^◌, ◌%◌, ◌<◌, ◌≤◌, ◌==◌, nat_le, refl, arith, Bool, true, false, if◌then◌else◌, List, [], ◌∷◌, ◌++◌, length, slice_index}
+use Rattle.std.proofs.lemmas.Bool.{eqb-false, both_ways}
 use Rattle.std.proofs.lemmas.List.{length-append}
 use Rattle.std.proofs.Math.Nat.{mul-le-mul_left}
 use Rattle.bus_core.specs.declared.operation.BusEntry.{BusEntry}
-use Rattle.bus_core.specs.Operation.{loaded, stored}
+use Rattle.bus_core.specs.Operation.{stored}
 use Rattle.counted_ring.specs.declared.place.WqPlace.{WqPlace}
 use Rattle.counted_ring.specs.Place.{IsPlace, is_send, unit_blocks, all_words}
-use Rattle.counted_ring.specs.Poster.{Poster, Stage, Ready, Storing, Naming, Counting, Ringing, MayPostAt, MayRingAt, after_post_at, after_ring_at, post_says_at, ring_says_at, stage_with, has_room, at_stage, posted_one}
-use Rattle.counted_ring.specs.PosterView.{MayBring, after_bring, brought, stage_turns}
-use Rattle.counted_ring.specs.Queue.{WqEvent, Wrote, Full, Rang}
+use Rattle.counted_ring.specs.Poster.{Poster, Stage, Ready, Storing, Naming, Counting, Ringing, MayPostAt, MayRingAt, after_post_at, after_ring_at, stage_with, has_room, at_stage, posted_one}
+use Rattle.counted_ring.specs.PosterView.{MayBring, after_bring, is_ready, stage_turns}
 use Rattle.provider_post.specs.declared.call.Call.{Call}
-use Rattle.provider_post.specs.Call.{is_written, is_last, left_after, call_after, told_of, mark_at, mark_of}
+use Rattle.provider_post.specs.Call.{is_written, mark_at, mark_of}
+use Rattle.provider_post.specs.Left.{post_left}
 use Rattle.provider_post.specs.Rule.{PostRule, post_side_poster, post_side_call}
-
--- The words of an entry
+use Rattle.provider_post.proofs.Left.{IsPosting, Falls, Left, post_goes}
 
 -- of an entry of which these words are stored some are left
 abbrev pub IsBegun : WqPlace → List ℕ → Type 0
@@ -73,181 +72,49 @@ store_falls place fine words w begun = by (length (words ++ w ∷ []) == all_wor
     by true = let few = begun_few place fine words begun in omega (arith, few)
     by false = let few = begun_few place fine words begun in let long = length-append words (w ∷ []) in omega (arith, few, long)
 
--- The call
+-- An operation of a post
 
--- a call of so many items
-pub record IsPosting (items : ℕ) (c : Call) : Type 0 where
-  pub count : c.count ≡ items
-  pub some : c.accepted ≤ c.count
+module _ (place : WqPlace) (fine : IsPlace place) (p : Poster) (e : BusEntry) where
+  -- what it leaves of an entry that is being written
+  abbrev Follows : Stage → Stage → Type 0
+  Follows stage next = IsStaged place next × Falls stage next
 
--- where all is written
-abbrev pub ring_left : Bool → Stage → ℕ
-ring_left true stage = 1
-ring_left false Ready = 2
-ring_left false (Storing words) = 2
-ring_left false (Naming words) = 2
-ring_left false (Counting words id) = 2
-ring_left false Ringing = 3
+  over : (stage next : Stage) → is_ready next ≡ true → IsStaged place next → Follows stage next
+  over stage next ready staged = (staged, λ unready. absurd (both_ways (is_ready next) unready ready))
 
--- how many operations it takes at most from here on, where so many items are left: 36 for each, and two to ring
-abbrev pub left_by : (written recorded : Bool) → Stage → ℕ → ℕ
-left_by true recorded stage items = ring_left recorded stage
-left_by false recorded stage items = stage_turns stage + 36 * (items - 1) + 2
-
-abbrev pub post_left : Stage → Call → ℕ
-post_left stage c = left_by (is_written c) c.recorded stage (c.count - c.accepted)
-
-ring_few : (recorded : Bool) (stage : Stage) → (1 ≤ ring_left recorded stage) × (ring_left recorded stage ≤ 3)
-ring_few true stage = (omega arith, omega arith)
-ring_few false Ready = (omega arith, omega arith)
-ring_few false (Storing words) = (omega arith, omega arith)
-ring_few false (Naming words) = (omega arith, omega arith)
-ring_few false (Counting words id) = (omega arith, omega arith)
-ring_few false Ringing = (omega arith, omega arith)
-
-ready_few : (recorded : Bool) → ring_left recorded Ready ≤ 2
-ready_few true = omega arith
-ready_few false = omega arith
-
-turns_few : (stage : Stage) → stage_turns stage ≤ 36
-turns_few Ready = omega arith
-turns_few (Storing words) = omega arith
-turns_few (Naming words) = omega arith
-turns_few (Counting words id) = omega arith
-turns_few Ringing = omega arith
-
--- a call that is not over has an operation to make, and at most 36 an item and 38
-pub post_few : (items : ℕ) (stage : Stage) (c : Call) → IsPosting items c → (0 < post_left stage c) × (post_left stage c ≤ 36 * items + 38)
-post_few items stage c h = by (is_written c)
-  where
-    by : (b : Bool) → (0 < left_by b c.recorded stage (c.count - c.accepted)) × (left_by b c.recorded stage (c.count - c.accepted) ≤ 36 * items + 38)
-    by true = let few = ring_few c.recorded stage in (omega (arith, few.0), omega (arith, few.1))
-    by false = let few = turns_few stage in (omega arith, omega (arith, few, h.count))
-
--- the call after an operation that says this
-abbrev with_event : Call → Option WqEvent → Call
-with_event c event = call_after c (told_of event)
-
--- what is left after an operation: none of the call, or less
-abbrev pub Left : ℕ → ℕ → Stage → Option Call → Type 0
-Left items before stage None = Unit {0}
-Left items before stage (Some c) = IsPosting items c × (post_left stage c < before)
-
-unless_last : (items before : ℕ) (stage : Stage) (send : Bool) (c next : Call) → (is_last send c next ≡ false → IsPosting items next × (post_left stage next < before)) → Left items before stage (left_after send c next)
-unless_last items before stage send c next f = by (is_last send c next) refl
-  where
-    by : (b : Bool) → is_last send c next ≡ b → Left items before stage (if b then None else Some next)
-    by true e = tt
-    by false e = f e
-
--- an operation after the record is the last one
-not_recorded : (send : Bool) (c next : Call) → is_last send c next ≡ false → c.recorded ≡ false
-not_recorded send c next goes = by c.recorded goes
-  where
-    by : (b : Bool) → (b || (next.recorded && not send) || (is_some next.refused && (next.accepted == 0))) ≡ false → b ≡ false
-    by true e = absurd (false≢true (sym e))
-    by false e = refl
-
-neither : (a b : Bool) → (a || b) ≡ false → (a ≡ false) × (b ≡ false)
-neither true b h = absurd (false≢true (sym h))
-neither false b h = (refl, h)
-
-or_true : (a : Bool) → (a || true) ≡ true
-or_true true = refl
-or_true false = refl
-
-module _ (place : WqPlace) (fine : IsPlace place) (items : ℕ) (p : Poster) (c : Call) (e : BusEntry) (h : IsPosting items c) where
-  -- what an operation leaves
-  abbrev Goes : ℕ → Stage → Option WqEvent → Type 0
-  Goes before stage event = IsStaged place stage × Left items before stage (left_after (is_send place) c (with_event c event))
-
-  -- Items are written
-
-  module _ (more : is_written c ≡ false) where
-    left_is : (stage : Stage) → post_left stage c ≡ stage_turns stage + 36 * (c.count - c.accepted - 1) + 2
-    left_is stage = ap (λ b. left_by b c.recorded stage (c.count - c.accepted)) more
-
-    some_left : c.accepted < c.count
-    some_left = let parts = neither (c.accepted == c.count) (is_some c.refused) more in let differ = eqb-false c.accepted c.count parts.0 in omega (arith, h.some, differ)
-
-    silent : (stage next : Stage) → IsStaged place next → stage_turns next < stage_turns stage → Goes (post_left stage c) next None
-    silent stage next staged falls = (staged, unless_last items (post_left stage c) next (is_send place) c c (λ goes. (h, let now = left_is stage in let then_left = left_is next in omega (arith, now, then_left, falls))))
-
-    wrote_falls : (stage : Stage) (words : List ℕ) (id : ℕ) → 1 ≤ stage_turns stage → post_left Ready (with_event c (Some (Wrote words id))) < post_left stage c
-    wrote_falls stage words id some = by (is_written (with_event c (Some (Wrote words id)))) refl
-      where
-        by : (b : Bool) → is_written (with_event c (Some (Wrote words id))) ≡ b → left_by b c.recorded Ready (c.count - (c.accepted + 1)) < post_left stage c
-        by true e = let few = ready_few c.recorded in let now = left_is stage in omega (arith, few, now, some)
-        by false e =
-            let parts = neither (c.accepted + 1 == c.count) (is_some c.refused) e in
-            let differ = eqb-false (c.accepted + 1) c.count parts.0 in
-            let now = left_is stage in omega (arith, now, some, differ, some_left)
-
-    wrote : (stage : Stage) (words : List ℕ) (id : ℕ) → 1 ≤ stage_turns stage → Goes (post_left stage c) Ready (Some (Wrote words id))
-    wrote stage words id some =
-        (tt, unless_last items (post_left stage c) Ready (is_send place) c (with_event c (Some (Wrote words id))) (λ goes. (record { count = h.count; some = omega (arith, some_left) }, wrote_falls stage words id some)))
-
-    full : (head tail : ℕ) → Goes (post_left Ready c) Ready (Some (Full head tail))
-    full head tail = (tt, unless_last items (post_left Ready c) Ready (is_send place) c (with_event c (Some (Full head tail))) (λ goes. (record { count = h.count; some = h.some }, falls)))
-      where
-        falls : post_left Ready (with_event c (Some (Full head tail))) < post_left Ready c
-        falls =
-            let then_left : post_left Ready (with_event c (Some (Full head tail))) ≡ ring_left c.recorded Ready = ap (λ b. left_by b c.recorded Ready (c.count - c.accepted)) (or_true (c.accepted == c.count)) in
-            let few = ready_few c.recorded in let now = left_is Ready in omega (arith, then_left, few, now)
-
-    posts : (stage : Stage) → IsStaged place stage → MayPostAt place p stage e → Goes (post_left stage c) (after_post_at place p stage e).stage (post_says_at place p stage e)
-    posts Ready staged may = by (has_room place p e)
-      where
-        by : (b : Bool) → Goes (post_left Ready c) (if b then Storing [] else Ready) (if b then None else Some (Full p.count (loaded e)))
-        by true = silent Ready (Storing []) tt (omega arith)
-        by false = full p.count (loaded e)
-    posts (Storing words) staged may = silent (Storing words) (stage_with place (words ++ stored e ∷ [])) (store_staged place fine words (stored e) staged) (store_falls place fine words (stored e) staged)
-    posts (Naming words) staged may = by (is_send place)
-      where
-        by : (b : Bool) → Goes (post_left (Naming words) c) (if b then at_stage p (Counting words (stored e)) else posted_one place p words).stage (if b then None else Some (Wrote words (stored e)))
-        by true = silent (Naming words) (Counting words (stored e)) tt (omega arith)
-        by false = wrote (Naming words) words (stored e) (omega arith)
-    posts (Counting words id) staged may = wrote (Counting words id) words id (omega arith)
-    posts Ringing staged may = absurd may
-
-  -- All is written
-
-  module _ (all : is_written c ≡ true) where
-    ring_is : (stage : Stage) → post_left stage c ≡ ring_left c.recorded stage
-    ring_is stage = ap (λ b. left_by b c.recorded stage (c.count - c.accepted)) all
-
-    rings : (stage : Stage) → MayRingAt place p stage e → Goes (post_left stage c) (after_ring_at place p stage).stage (ring_says_at stage)
-    rings Ready may = (staged (is_send place), unless_last items (post_left Ready c) (if is_send place then Ringing else Ready) (is_send place) c (with_event c (Some Rang)) (λ goes. (record { count = h.count; some = h.some }, falls goes)))
-      where
-        staged : (b : Bool) → IsStaged place (if b then Ringing else Ready)
-        staged true = tt
-        staged false = tt
-
-        falls : is_last (is_send place) c (with_event c (Some Rang)) ≡ false → post_left (if is_send place then Ringing else Ready) (with_event c (Some Rang)) < post_left Ready c
-        falls goes =
-            let then_left : post_left (if is_send place then Ringing else Ready) (with_event c (Some Rang)) ≡ 1 = ap (λ b. left_by b true (if is_send place then Ringing else Ready) (c.count - c.accepted)) all in
-            let waits = not_recorded (is_send place) c (with_event c (Some Rang)) goes in
-            let now : post_left Ready c ≡ 2 = ring_is Ready ∙ ap (λ b. ring_left b Ready) waits in
-            omega (arith, then_left, now)
-    rings (Storing words) may = absurd may
-    rings (Naming words) may = absurd may
-    rings (Counting words id) may = absurd may
-    rings Ringing may = (tt, unless_last items (post_left Ringing c) Ready (is_send place) c c (λ goes. (h, falls goes)))
-      where
-        falls : is_last (is_send place) c c ≡ false → post_left Ready c < post_left Ringing c
-        falls goes =
-            let waits = not_recorded (is_send place) c c goes in
-            let then_left : post_left Ready c ≡ 2 = ring_is Ready ∙ ap (λ b. ring_left b Ready) waits in
-            let now : post_left Ringing c ≡ 3 = ring_is Ringing ∙ ap (λ b. ring_left b Ringing) waits in
-            omega (arith, then_left, now)
-
-  abbrev rule : PostRule
-  rule = record { poster = p; call = c }
-
-  -- each operation of a call brings it nearer to its end
-  pub post_goes : IsStaged place p.stage → MayBring place p (mark_of c) e → IsStaged place (post_side_poster place rule e).stage × Left items (post_left p.stage c) (post_side_poster place rule e).stage (post_side_call place rule e)
-  post_goes staged may = by (is_written c) refl may
+  posts : (stage : Stage) → IsStaged place stage → MayPostAt place p stage e → Follows stage (after_post_at place p stage e).stage
+  posts Ready staged may = by (has_room place p e)
     where
-      by : (b : Bool) → is_written c ≡ b → MayBring place p (mark_at b) e → Goes (post_left p.stage c) (after_bring place p (mark_at b) e).stage (brought place p (mark_at b) e)
-      by true e' may' = rings e' p.stage may'
-      by false e' may' = posts e' p.stage staged may'
+      by : (b : Bool) → Follows Ready (if b then Storing [] else Ready)
+      by true = (tt, λ unready. omega arith)
+      by false = over Ready Ready refl tt
+  posts (Storing words) staged may = (store_staged place fine words (stored e) staged, λ unready. store_falls place fine words (stored e) staged)
+  posts (Naming words) staged may = by (is_send place)
+    where
+      by : (b : Bool) → Follows (Naming words) (if b then at_stage p (Counting words (stored e)) else posted_one place p words).stage
+      by true = (tt, λ unready. omega arith)
+      by false = over (Naming words) Ready refl tt
+  posts (Counting words id) staged may = over (Counting words id) Ready refl tt
+  posts Ringing staged may = absurd may
+
+  rings : (stage : Stage) → MayRingAt place p stage e → Follows stage (after_ring_at place p stage).stage
+  rings Ready may = by (is_send place)
+    where
+      by : (b : Bool) → Follows Ready (if b then Ringing else Ready)
+      by true = (tt, λ unready. omega arith)
+      by false = over Ready Ready refl tt
+  rings (Storing words) may = absurd may
+  rings (Naming words) may = absurd may
+  rings (Counting words id) may = absurd may
+  rings Ringing may = over Ringing Ready refl tt
+
+  follows : (written : Bool) → IsStaged place p.stage → MayBring place p (mark_at written) e → Follows p.stage (after_bring place p (mark_at written) e).stage
+  follows true staged may = rings p.stage may
+  follows false staged may = posts p.stage staged may
+
+-- each operation of a call keeps this, and brings the call nearer to its end
+pub staged_goes : (place : WqPlace) → IsPlace place → (items : ℕ) (p : Poster) (c : Call) (e : BusEntry) → IsPosting items c → IsStaged place p.stage → MayBring place p (mark_of c) e
+    → IsStaged place (post_side_poster place (record { poster = p; call = c }) e).stage × Left items (post_left p.stage c) (post_side_poster place (record { poster = p; call = c }) e).stage (post_side_call place (record { poster = p; call = c }) e)
+staged_goes place fine items p c e h staged may =
+    let next = follows place fine p e (is_written c) staged may in
+    (next.0, post_goes place items p c e h next.1 may)

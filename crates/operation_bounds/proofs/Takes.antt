@@ -33,7 +33,7 @@ use Rattle.provider_poll.specs.SendQueue.{SendView}
 use Rattle.provider_poll.specs.Stores.{from_ready, storing, storing_first}
 use Rattle.provider_poll.specs.PollStep.{with_end, with_completion, after_look, after_lookup, place_of}
 use Rattle.actor_rules.specs.Polling.{is_loading}
-use Rattle.operation_bounds.proofs.Polls.{IsLoading, IsUnderWay}
+use Rattle.provider_poll.proofs.LeftLoads.{IsLoading, IsUnderWay}
 
 -- it reads the entry, or looks its request up
 abbrev pub IsTaking : Consumer → PollState → Type 0
@@ -60,7 +60,7 @@ stores_only queues taken empty ends = by (from_ready queues ends)
 abbrev Made : Consumer → PollStep → Type 0
 Made c turned = Takes c turned.state turned.answer
 
-module _ (given : List Completion) (number : ℕ) (queues : List SendView) (max : ℕ) (ends : List End) (shown : ℕ) (h : IsLoading 1 given max (length ends)) (c : Consumer) where
+module _ (given : ℕ) (number : ℕ) (queues : List SendView) (max : ℕ) (ends : List End) (shown : ℕ) (h : IsLoading 1 given max (length ends)) (c : Consumer) where
   end_takes : (end : End) (completion : Completion) → Takes c (with_end number queues max (record { items = ends }) shown end completion).state (with_end number queues max (record { items = ends }) shown end completion).answer
   end_takes end completion = by (nat_lt (length ends + 1) max) refl
     where
@@ -78,7 +78,7 @@ module _ (given : List Completion) (number : ℕ) (queues : List SendView) (max 
 
 -- Loads of the completion queue's words
 
-module _ (place : PollPlace) (given : List Completion) (seen : ℕ) (rs : List Retirer) (max : ℕ) (ends : List End) (h : IsLoading 1 given max (length ends)) (e : BusEntry) where
+module _ (place : PollPlace) (given : ℕ) (seen : ℕ) (rs : List Retirer) (max : ℕ) (ends : List End) (h : IsLoading 1 given max (length ends)) (e : BusEntry) where
   abbrev polls : Consumer → PollRule
   polls c = record { host = c; seen = seen; retirers = rs; state = Polling max (record { items = ends }) }
 
@@ -131,7 +131,7 @@ module _ (place : PollPlace) (given : List Completion) (seen : ℕ) (rs : List R
 
 -- Lookups
 
-module _ (place : PollPlace) (given : List Completion) (c : Consumer) (seen : ℕ) (rs : List Retirer) (max : ℕ) (ends : List End) (h : IsLoading 1 given max (length ends)) (completion : Cqe) (queue : ℕ) (e : BusEntry) where
+module _ (place : PollPlace) (given : ℕ) (c : Consumer) (seen : ℕ) (rs : List Retirer) (max : ℕ) (ends : List End) (h : IsLoading 1 given max (length ends)) (completion : Cqe) (queue : ℕ) (e : BusEntry) where
   abbrev looks_up : PollState
   looks_up = LookingUp max (record { items = ends }) completion queue
 
@@ -167,7 +167,7 @@ module _ (place : PollPlace) (given : List Completion) (c : Consumer) (seen : �
       (by_asked q q.side.asked refl (queues_at place.queues (retirers_with rs queue (lookup_mark completion.counter (found_before q.side) q.side.asked) e (Some q))))))
 
 -- each operation of a poll that takes
-pub take_goes : (place : PollPlace) (given : List Completion) (c : Consumer) (seen : ℕ) (rs : List Retirer) (e : BusEntry) (state : PollState) (mark : PollMark) → IsUnderWay 1 given state → IsTaking c state → MayGoOn state place (record { host = c; seen = seen; retirers = rs; state = state }) mark e
+pub take_goes : (place : PollPlace) (given : ℕ) (c : Consumer) (seen : ℕ) (rs : List Retirer) (e : BusEntry) (state : PollState) (mark : PollMark) → IsUnderWay 1 given state → IsTaking c state → MayGoOn state place (record { host = c; seen = seen; retirers = rs; state = state }) mark e
     → Takes (after_poll_side place (record { host = c; seen = seen; retirers = rs; state = state }) mark e).host (after_poll_side place (record { host = c; seen = seen; retirers = rs; state = state }) mark e).state (poll_side_step place (record { host = c; seen = seen; retirers = rs; state = state }) mark e).answer
 take_goes place given c seen rs e Idle mark h takes may = absurd takes
 take_goes place given (Waiting acked next) seen rs e (Polling max ends) mark h takes may = absurd takes

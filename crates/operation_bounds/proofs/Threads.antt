@@ -9,13 +9,16 @@ use Rattle.verbs_types.specs.declared.declaration.Lines.{Lines}
 use Rattle.verbs_rules.specs.Shape.{Shape, Posts, Takes, shape_of, most_of}
 use Rattle.provider_post.specs.declared.call.Call as post
 use Rattle.provider_post.specs.Call.{fresh_call}
+use Rattle.provider_post.specs.Left.{post_left}
+use Rattle.provider_post.proofs.Left.{IsPosting}
 use Rattle.provider_poll.specs.declared.state.PollState.{PollState}
 use Rattle.provider_poll.specs.declared.state.PollState.TheVariants as states
 use Rattle.actor_rules.specs.Polling.{begun}
 use Rattle.actor_rules.specs.Ready.{IsOwnCall}
 use Rattle.actor_rules.specs.Thread.{Thread, queue_place}
-use Rattle.operation_bounds.proofs.Polls.{IsHost, IsWaiting, IsLoading, IsUnderWay, poll_left}
-use Rattle.operation_bounds.proofs.Posts.{IsStaged, IsPosting, post_left}
+use Rattle.provider_poll.specs.Left.{poll_left}
+use Rattle.provider_poll.proofs.LeftLoads.{IsHost, IsWaiting, IsLoading, IsUnderWay}
+use Rattle.operation_bounds.proofs.Posts.{IsStaged}
 
 -- What is under way
 
@@ -40,9 +43,9 @@ pub record IsInPost (t : Thread) (items : ℕ) : Type 0 where
 -- a poll of at most so many, which may be about to begin
 abbrev pub IsPollAt : ℕ → List Completion → PollState → Type 0
 IsPollAt most given states.Idle = given ≡ []
-IsPollAt most given (states.Polling max ends) = IsLoading most given max (length ends.items)
-IsPollAt most given (states.LookingUp max ends c queue) = IsLoading most given max (length ends.items)
-IsPollAt most given (states.Retiring taken empty left) = IsUnderWay most given (states.Retiring taken empty left)
+IsPollAt most given (states.Polling max ends) = IsLoading most (length given) max (length ends.items)
+IsPollAt most given (states.LookingUp max ends c queue) = IsLoading most (length given) max (length ends.items)
+IsPollAt most given (states.Retiring taken empty left) = IsUnderWay most (length given) (states.Retiring taken empty left)
 IsPollAt most given (states.Acking taken empty) = Unit {0}
 
 pub record IsInPoll (t : Thread) (cq most : ℕ) : Type 0 where

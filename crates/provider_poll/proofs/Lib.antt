@@ -7,3 +7,6 @@ pub mod Rule
 pub mod EachPlace
 pub mod Fresh
 pub mod Sides
+pub mod LeftLoads
+pub mod LeftStores
+pub mod Turned

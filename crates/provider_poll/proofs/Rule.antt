@@ -32,10 +32,10 @@ use Rattle.provider_poll.specs.declared.poll_step.PollStep.{PollStep}
 use Rattle.provider_poll.specs.SendQueue.{SendView, retirer_of}
 use Rattle.provider_poll.specs.PollStep.{after_look, after_lookup, after_retire, after_ack}
 use Rattle.provider_poll.specs.Turns.{InQueue, acked_index}
-use Rattle.provider_poll.specs.Poll.{PollView, PollTurn}
+use Rattle.provider_poll.specs.Poll.{PollView, SideTurn}
 use Rattle.provider_poll.specs.Rule.{QueuePlace, PollPlace, PollRule, OnHost, OnQueue, MayPollSide, IsNextOf, MayServeIn, queues_at, queues_of, lookup_in}
 use Rattle.provider_poll.specs.RuleStep.{host_step, retirer_step, retirers_with, retirers_by, asked_with, poll_side_step, seen_by}
-use Rattle.provider_poll.specs.FollowsRule.{FollowsRule, TurnsFollow, queue_place, place_of, rule_of}
+use Rattle.provider_poll.specs.FollowsRule.{FollowsRule, queue_place, place_of, rule_of}
 use Rattle.provider_poll.proofs.Places.{stays}
 use Rattle.provider_poll.proofs.Retirers.{Serves, looks_up, retires}
 use Rattle.provider_poll.proofs.Sides.{asking_stays}
@@ -148,7 +148,7 @@ module _ (h : HostView) (qs : List SendView) (state : PollState) (mark : QueueMa
 
 module _ (h h' : HostView) (qs qs' : List SendView) (state' : PollState) (noted noted' : Option Note) (e : BusEntry) (answer : Step Completion PollAnswer) where
   abbrev Follow : PollState → Type 0
-  Follow state = PollTurn (view h qs state noted) (view h' qs' state' noted') e answer → FollowsRule (view h qs state noted) (view h' qs' state' noted') e answer
+  Follow state = SideTurn (view h qs state noted) (view h' qs' state' noted') e answer → FollowsRule (view h qs state noted) (view h' qs' state' noted') e answer
 
   polls : (max : ℕ) (ends : ArrayVec End) → Follow (Polling max ends)
   polls max ends t =
@@ -209,5 +209,6 @@ module _ (h h' : HostView) (qs qs' : List SendView) (state' : PollState) (noted 
   follow (Retiring taken empty left) t = stores taken empty left.items t
   follow (Acking taken empty) t = acknowledges taken empty t
 
-pub turns_follow : TurnsFollow
+-- each turn of the machine is an operation of the rule
+pub turns_follow : (old new : PollView) (e : BusEntry) (answer : Step Completion PollAnswer) → SideTurn old new e answer → FollowsRule old new e answer
 turns_follow old new e answer t = follow old.host new.host old.queues new.queues new.state old.noted new.noted e answer old.state t

@@ -7,6 +7,7 @@ pub mod SendQueues
 pub mod SendQueuesInside
 pub mod Stores
 pub mod PollStep
+pub mod Left
 pub mod Turns
 pub mod Poll
 pub mod PollInside

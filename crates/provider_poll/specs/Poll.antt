@@ -39,7 +39,7 @@ fresh_side place start queues = record {
 
 -- a poll before its first operation
 abbrev pub begun : PollView → ℕ → PollView
-begun v max = record { host = v.host; queues = v.queues; state = Polling max (record { items = [] }); noted = v.noted }
+begun v max = record v { state = Polling max (record { items = [] }) }
 
 abbrev pub IsBusy : PollState → Type 0
 IsBusy Idle = ⊥
@@ -79,7 +79,7 @@ Turns (Retiring taken empty left) old new e turned = RetiresFirst old.queues new
 Turns (Acking taken empty) old new e turned = Acknowledges old.host.place.number old.host new.host taken empty e turned × (new.queues ≡ old.queues)
 
 -- one operation, which keeps the rule of the host, or of the poller of one of the queues
-pub record PollTurn (old new : PollView) (e : BusEntry) (answer : Step Completion PollAnswer) : Type 0 where
+pub record SideTurn (old new : PollView) (e : BusEntry) (answer : Step Completion PollAnswer) : Type 0 where
   pub turned : PollStep
   pub turns : Turns old.state old new e turned
   pub state : new.state ≡ turned.state

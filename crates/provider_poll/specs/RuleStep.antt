@@ -83,9 +83,4 @@ after_poll_side place s (OnHost mark) e = record {
   retirers = s.retirers;
   state = (poll_side_step place s (OnHost mark) e).state;
 }
-after_poll_side place s (OnQueue index mark) e = record {
-  host = s.host;
-  seen = s.seen;
-  retirers = retirers_by place s index mark e;
-  state = (poll_side_step place s (OnQueue index mark) e).state;
-}
+after_poll_side place s (OnQueue index mark) e = record s { retirers = retirers_by place s index mark e; state = (poll_side_step place s (OnQueue index mark) e).state }

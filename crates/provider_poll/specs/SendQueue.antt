@@ -56,4 +56,4 @@ pub record SendTurn (old new : SendView) (work : RetirerView) (e : BusEntry) (an
   pub number : new.number ≡ old.number
 
 abbrev pub forgotten_queue : SendView → SendView
-forgotten_queue q = record { number = q.number; place = q.place; side = forgotten_side q.side }
+forgotten_queue q = record q { side = forgotten_side q.side }

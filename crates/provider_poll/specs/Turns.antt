@@ -35,7 +35,7 @@ IsPollingHost (Some Acknowledgement) = ⊥
 
 -- a host at this task
 abbrev pub working : HostTask → HostView → HostView
-working task h = record { place = h.place; side = h.side; task = Some task; seen = h.seen }
+working task h = record h { task = Some task }
 
 -- the host looks at the next entry, or reads it
 pub record Looks (number : ℕ) (old new : HostView) (queues : List SendView) (max : ℕ) (ends : ArrayVec End) (e : BusEntry) (turned : PollStep) : Type 0 where

@@ -1,17 +1,10 @@
-//! What holds of sides that poll, and of their turns.
+//! What holds of sides that poll, and of their notes.
 ghost use Rattle.std.specs.Prelude.{ℕ};
 ghost use Rattle.verbs_types.specs.declared.declaration.Lines.{Lines};
-ghost use Rattle.provider_poll.specs.FollowsRule.{TurnsFollow};
 ghost use Rattle.provider_poll.specs.Fresh.{BeginsAs, LieWithin};
 ghost use Rattle.provider_poll.specs.NotesFit.{NotesFit};
 
 use actor_map::laws as map;
-
-/// Each turn is an operation that the side's rule allows. What the side is after it, its answer and its note
-/// are those of the rule, so that a law over operations needs no machine.
-pub fn turns_follow()
-    ensures { TurnsFollow }
-{}
 
 /// The note of a poll is that of an entry with as many completions.
 pub fn notes_fit()

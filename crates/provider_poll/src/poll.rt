@@ -1,5 +1,5 @@
 //! The side of a completion queue that a thread polls.
-ghost use Rattle.std.specs.Prelude.{◌≡◌, ◌<◌, ◌≤◌, ◌^◌, ◌↔◌, IsTrue, IfOk, length};
+ghost use Rattle.std.specs.Prelude.{◌≡◌, ◌<◌, ◌≤◌, ◌+◌, ◌*◌, ◌^◌, ◌↔◌, IsTrue, IfOk, length};
 ghost use Rattle.bus_core.specs.Port.{Appends};
 ghost use Rattle.bus_core.specs.declared.operation.BusEntry.{BusEntry};
 ghost use Rattle.verbs_types.specs.Lines.{is_among};
@@ -8,7 +8,8 @@ ghost use Rattle.actor_map.specs.Sizes.{words_of};
 ghost use Rattle.owner_ring.specs.Consumer.{next_index};
 ghost use Rattle.provider_poll.specs.declared.state.PollState.TheVariants.{Idle};
 ghost use Rattle.provider_poll.specs.Fresh.{fresh_poll};
-ghost use Rattle.provider_poll.specs.Poll.{PollTurn, CanPoll, LiesWithin, IsBusy, MayDrop, begun, forgotten};
+ghost use Rattle.provider_poll.specs.FollowsRule.{PollTurn, turns_left};
+ghost use Rattle.provider_poll.specs.Poll.{CanPoll, LiesWithin, IsBusy, MayDrop, begun, forgotten};
 
 use crate::answer::PollAnswer;
 use crate::laws;
@@ -81,13 +82,14 @@ impl PollSide {
         })
     }
 
-    /// Starts a poll of at most `max` completions, 1 to 16.
+    /// Starts a poll of at most `max` completions, 1 to 16. It ends within 64 turns a completion and 64 more.
     pub fn begin_poll(&mut self, max: u32)
         requires idle { self.old.state ≡ Idle }
         requires some { 0 < max }
         requires few { max ≤ 16 }
         requires index { next_index self.old.host.side < 2 ^ 61 }
-        ensures { self.new ≡ begun self.old max }
+        ensures begun { self.new ≡ begun self.old max }
+        ensures soon { turns_left self.new ≤ 64 * max + 64 }
     {
         self.state = PollState::Polling {
             max,
@@ -131,7 +133,8 @@ impl PollSide {
         self.noted = None;
     }
 
-    /// Makes one operation.
+    /// Makes one operation. Each leaves fewer turns of the poll, of which `begin_poll` says how many there are at
+    /// most.
     pub fn turn<P: BusPort>(&mut self, port: &mut P) -> Step<Completion, PollAnswer>
         requires busy { IsBusy self.old.state }
         requires port { CanPoll self.old (P.port port.old) }

@@ -107,6 +107,7 @@ module _ (old new : PostView) (items : List Item) (e : BusEntry) (answer : Step 
     noted = t.noted ∙ noted old.queue items (call_of old) (told_of (post_side_says old.poster.place (rule_of old) e)) new.poster.side.seen few
         ∙ ap (λ (seen : ℕ). option_map (λ what. entries.note_of what seen) (post_side_entry old.poster.place old.queue items (rule_of old) e)) (ap (λ (p : Poster). p.seen) t.side);
     rung = t.rung;
+    fewer = t.fewer;
     rest = t.rest;
     goes_on = goes_on new.call refl;
     place = t.place;

@@ -1,5 +1,6 @@
 pub mod Calls
 pub mod Entries
+pub mod Left
 pub mod Moves
 pub mod Posts
 pub mod Rings

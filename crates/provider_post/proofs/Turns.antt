@@ -1,5 +1,5 @@
 -- An operation of a call, by the poster's.
-use Rattle.std.proofs.Common.{◌≡◌, inl, inr, refl, sym, ap, ◌∙◌, subst, Bool, true, cond, Option, Some, None}
+use Rattle.std.proofs.Common.{◌≡◌, ◌<◌, inl, inr, refl, sym, ap, ◌∙◌, subst, Bool, true, cond, Option, Some, None}
 use Rattle.std.proofs.lemmas.Bool.{cases_Bool}
 use Rattle.bus_core.specs.declared.operation.BusEntry.{BusEntry}
 use Rattle.bus_core.specs.declared.turn.Note.{Note}
@@ -8,13 +8,17 @@ use Rattle.verbs_types.specs.declared.completion.Queue.{Queue}
 use Rattle.counted_ring.specs.declared.place.WqPlace.{WqPlace}
 use Rattle.counted_ring.specs.declared.poster.Posted.{Posted}
 use Rattle.counted_ring.specs.Place.{is_send, touches}
-use Rattle.counted_ring.specs.PosterView.{PosterView, PosterTurn, PosterTask, Posting, Doorbell, brought}
+use Rattle.counted_ring.specs.Poster.{Poster}
+use Rattle.counted_ring.specs.PosterView.{PosterView, PosterTurn, PosterTask, Posting, Doorbell, brought, turns_left}
 use Rattle.provider_post.specs.declared.call.Call.{Call}
 use Rattle.provider_post.specs.declared.post_step.PostStep.{PostStep}
 use Rattle.provider_post.specs.Call.{is_written, mark_of, told_of, told_by, call_after, left_after, answer_with}
 use Rattle.provider_post.specs.Note.{note_of}
 use Rattle.provider_post.specs.Queued.{has_register, IsQueuePlace, next_in, QueueTurn, ring_task, IsRung}
 use Rattle.provider_post.specs.Inside.{TaskFits, IsAtCall, IsAtWork, IsSide}
+use Rattle.provider_post.specs.Left.{left_of, post_left}
+use Rattle.provider_post.specs.Rule.{post_side_poster, post_side_call}
+use Rattle.provider_post.proofs.Left.{IsPosting, Falls, turn_falls, post_goes, fewer}
 use Rattle.provider_post.proofs.Moves.{at_rest, Made}
 use Rattle.provider_post.proofs.Posts.{post}
 use Rattle.provider_post.proofs.Rings.{ring}
@@ -49,13 +53,18 @@ pub turned : (p p1 p' : PosterView) (queue : Queue) (before : Option Note) (c : 
 turned p p1 p' queue before c e answer told next left noted s begun rings t g =
     let place_is : p'.place ≡ p.place = t.place ∙ ap (λ (q : PosterView). q.place) rings in
     let inside : touches p.place e.addr ≡ true = subst (λ (pl : WqPlace). touches pl e.addr ≡ true) (ap (λ (q : PosterView). q.place) rings) t.inside in
-    let m = by_task p p' c e s.work answer p.task refl s.work.fits begun (subst (λ (q : PosterView). PosterTurn q p' e answer) rings t) in
+    let turn = subst (λ (q : PosterView). PosterTurn q p' e answer) rings t in
+    let m = by_task p p' c e s.work answer p.task refl s.work.fits begun turn in
     let next_is : next ≡ call_after c (told_by c answer) = g.next_is ∙ ap (call_after c) g.told_is in
     let register : has_register queue ≡ is_send p.place = sym s.place.register in
     let left_is : left ≡ left_after (is_send p.place) c (call_after c (told_by c answer)) = g.left_is ∙ (ap (λ (b : Bool). left_after b c next) register ∙ ap (left_after (is_send p.place) c) next_is) in
     let event = told_of (brought p.place p.side (mark_of c) e) in
     let next_by : next ≡ call_after c event = next_is ∙ ap (call_after c) m.told_is in
     let left_by : left ≡ left_after (is_send p.place) c (call_after c event) = left_is ∙ ap (λ (d : PostStep). left_after (is_send p.place) c (call_after c d)) m.told_is in
+    let falls : Falls p.side.stage p'.side.stage = turn_falls p.side.stage p'.side.stage (ring_task p.task) answer turn.done (subst (λ (o : Option PosterTask). turns_left o p'.side.stage < turns_left (ring_task p.task) p.side.stage) turn.task turn.fewer) in
+    let has : IsPosting c.count c = record { count = refl; some = s.work.some } in
+    let goes = post_goes p.place c.count p.side c e has (subst (λ (q : Poster). Falls p.side.stage q.stage) m.side falls) m.may in
+    let fewer_turns : left_of p'.side.stage left < post_left p.side.stage c = coe 1 0 (i. left_of (m.side i).stage (left_by i) < post_left p.side.stage c) (fewer c.count p.side.stage (post_side_poster p.place (record { poster = p.side; call = c }) e).stage c (post_side_call p.place (record { poster = p.side; call = c }) e) has goes) in
     let work : IsAtWork p' left = subst (λ (o : Option Call). IsAtWork p' o) (sym left_is) m.work in
     record {
       turn = record {
@@ -67,6 +76,7 @@ turned p p1 p' queue before c e answer told next left noted s begun rings t g =
         answer_is = ap (λ (o : Option Call). answer_with o next) left_by ∙ ap (λ (n : Call). answer_with (left_after (is_send p.place) c (call_after c event)) n) next_by;
         noted = g.noted_is ∙ ap (λ (d : PostStep). note_of queue c d p'.side.seen) (g.told_is ∙ m.told_is);
         rung = m.rung;
+        fewer = fewer_turns;
         rest = λ none. at_rest p' left work none;
         few = s.work.some;
         goes_on = λ words id same. record { task = m.task words id same; index = m.index words id same; call = left_is ∙ m.call words id same };

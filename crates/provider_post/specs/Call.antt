@@ -63,9 +63,9 @@ told_by c answer = told_at (is_written c) c.recorded answer
 -- the call after it
 abbrev pub call_after : Call → PostStep → Call
 call_after c Nothing = c
-call_after c Wrote = record { count = c.count; accepted = c.accepted + 1; refused = c.refused; recorded = c.recorded }
-call_after c (Full head tail) = record { count = c.count; accepted = c.accepted; refused = Some (room.Full head tail); recorded = c.recorded }
-call_after c Rang = record { count = c.count; accepted = c.accepted; refused = c.refused; recorded = true }
+call_after c Wrote = record c { accepted = c.accepted + 1 }
+call_after c (Full head tail) = record c { refused = Some (room.Full head tail) }
+call_after c Rang = record c { recorded = true }
 
 -- The operation between two states of a call was its last one: it stored the register, or the record of a queue that has no register, or it showed the queue full where nothing was written.
 abbrev pub is_last : (has_register : Bool) → Call → Call → Bool

@@ -1,4 +1,5 @@
 pub mod Call
+pub mod Left
 pub mod Item
 pub mod Note
 pub mod Rule

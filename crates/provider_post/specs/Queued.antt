@@ -16,7 +16,7 @@ use Rattle.provider_post.specs.declared.answer.PostAnswer.{PostAnswer}
 use Rattle.provider_post.specs.Call.{mark_of, told_of, next_to}
 use Rattle.provider_post.specs.Note.{note_of}
 use Rattle.provider_post.specs.Rule.{post_side_says, post_side_poster, post_side_call, post_side_answer}
-use Rattle.provider_post.specs.Side.{PostView, IsAtRest, IsListOf, call_of, rule_of}
+use Rattle.provider_post.specs.Side.{PostView, IsAtRest, IsListOf, call_of, rule_of, turns_left}
 
 -- a send queue has a register
 abbrev pub has_register : Queue → Bool
@@ -45,12 +45,7 @@ next_of v = next_in v.poster.task v.call
 
 -- the same side with this task of its poster
 abbrev pub with_task : PostView → Option PosterTask → PostView
-with_task v task = record {
-  poster = record { place = v.poster.place; side = v.poster.side; rung = v.poster.rung; task = task };
-  queue = v.queue;
-  call = v.call;
-  noted = v.noted;
-}
+with_task v task = record v { poster = record v.poster { task = task } }
 
 -- words that were written are those of the task
 abbrev pub WritesTask : Option PosterTask → Option WqEvent → Type 0
@@ -74,6 +69,7 @@ pub record QueueTurn (old new : PostView) (e : BusEntry) (answer : Step (Unit {0
   pub noted : new.noted ≡ note_of old.queue (call_of old) (told_of (post_side_says old.poster.place (rule_of old) e)) new.poster.side.seen
   pub rung : new.poster.rung ≡ rung_after (mark_of (call_of old)) old.poster.side old.poster.rung
   pub rest : new.call ≡ None → IsAtRest new.poster
+  pub fewer : turns_left new < turns_left old
   pub few : (call_of old).accepted ≤ (call_of old).count
   pub goes_on : (words : List ℕ) (id : ℕ) → new.poster.task ≡ Some (Posting words id) → GoesOn old new words id
   pub place : new.poster.place ≡ old.poster.place
@@ -92,4 +88,4 @@ ring_task None = Some Doorbell
 ring_task (Some task) = Some task
 
 abbrev pub IsRung : PosterView → PosterView → Type 0
-IsRung old new = new ≡ record { place = old.place; side = old.side; rung = old.rung; task = ring_task old.task }
+IsRung old new = new ≡ record old { task = ring_task old.task }

@@ -1,5 +1,5 @@
 -- What a side that posts is to a caller, and what a turn of it does.
-use Rattle.std.specs.Prelude.{ℕ, ◌≡◌, true, false, List, length, Option, Some, None, unwrap_or, slice_get}
+use Rattle.std.specs.Prelude.{ℕ, ◌≡◌, ◌<◌, true, false, List, length, Option, Some, None, unwrap_or, slice_get}
 use Rattle.bus_core.specs.declared.operation.BusEntry.{BusEntry}
 use Rattle.bus_core.specs.declared.turn.Step.{Step}
 use Rattle.bus_core.specs.declared.turn.Note.{Note}
@@ -14,6 +14,7 @@ use Rattle.counted_ring.specs.Rung.{rung_of, rung_after}
 use Rattle.provider_post.specs.declared.call.Call.{Call}
 use Rattle.provider_post.specs.declared.answer.PostAnswer.{PostAnswer}
 use Rattle.provider_post.specs.Call.{fresh_call, mark_of}
+use Rattle.provider_post.specs.Left.{left_of}
 use Rattle.provider_post.specs.Item.{CanTake, IsNextItem}
 use Rattle.provider_post.specs.Rule.{PostRule, MayPostSide, post_side_poster, post_side_call, post_side_answer, post_side_note}
 
@@ -32,7 +33,11 @@ fresh_view place queue start = record { poster = poster.fresh place start; queue
 
 -- a side with this call under way
 abbrev pub with_call : PostView → Option Call → PostView
-with_call v call = record { poster = v.poster; queue = v.queue; call = call; noted = v.noted }
+with_call v call = record v { call = call }
+
+-- how many turns the call that is under way takes at most from here on
+abbrev pub turns_left : PostView → ℕ
+turns_left v = left_of v.poster.side.stage v.call
 
 -- nothing is under way at a poster, and it has rung for all that it posted
 pub record IsAtRest (poster : PosterView) : Type 0 where
@@ -47,7 +52,7 @@ MayDrop (Some c) = (c.recorded ≡ false) × (c.refused ≡ None)
 
 -- an idle side that has posted only what was rung
 abbrev pub forgotten : PostView → PostView
-forgotten v = record { poster = poster.forgotten v.poster; queue = v.queue; call = None; noted = v.noted }
+forgotten v = record v { poster = poster.forgotten v.poster; call = None }
 
 -- the call of a side that is not idle
 abbrev pub call_of : PostView → Call
@@ -86,6 +91,7 @@ pub record PostTurn (old new : PostView) (items : List Item) (e : BusEntry) (ans
   pub answer_is : answer ≡ post_side_answer old.poster.place (rule_of old) e
   pub noted : new.noted ≡ post_side_note old.poster.place old.queue items (rule_of old) e
   pub rung : new.poster.rung ≡ rung_after (mark_of (call_of old)) old.poster.side old.poster.rung
+  pub fewer : turns_left new < turns_left old
   pub rest : new.call ≡ None → IsAtRest new.poster
   pub goes_on : IsListOf new items
   pub place : new.poster.place ≡ old.poster.place

@@ -1,5 +1,5 @@
 //! Posts to a send queue.
-ghost use Rattle.std.specs.Prelude.{◌≡◌, ◌<◌, ◌≤◌, ◌+◌, ◌^◌, ◌↔◌, IsTrue, IsSome, Some, None, length, map};
+ghost use Rattle.std.specs.Prelude.{◌≡◌, ◌<◌, ◌≤◌, ◌+◌, ◌*◌, ◌^◌, ◌↔◌, IsTrue, IsSome, Some, None, length, map};
 ghost use Rattle.bus_core.specs.Port.{Appends};
 ghost use Rattle.bus_core.specs.declared.operation.BusEntry.{BusEntry};
 ghost use Rattle.bus_core.specs.Turn.{IsWhole};
@@ -12,7 +12,7 @@ ghost use Rattle.actor_map.specs.Map.{map_of};
 ghost use Rattle.actor_map.specs.Sizes.{words_of};
 ghost use Rattle.object_places.specs.Places.{send_of, qp_line, IsWithin};
 ghost use Rattle.provider_post.specs.Call.{fresh_call};
-ghost use Rattle.provider_post.specs.Side.{PostTurn, IsListOf, MayDrop, call_of, forgotten, fresh_view, with_call};
+ghost use Rattle.provider_post.specs.Side.{PostTurn, IsListOf, MayDrop, call_of, forgotten, fresh_view, turns_left, with_call};
 ghost use Rattle.provider_post.specs.Queued.{IsBegun};
 ghost use Rattle.provider_post.specs.Inside.{IsSends};
 
@@ -67,14 +67,15 @@ impl PostSide {
         }
     }
 
-    /// Starts a call of `count` requests, 1 to 16.
+    /// Starts a call of `count` requests, 1 to 16. It ends within 64 turns a request and 64 more.
     pub fn begin(&mut self, count: u32)
         requires idle { self.old.call ≡ None }
         requires some { 0 < count }
         requires few { count ≤ 16 }
         requires posted { self.old.poster.side.count < 2 ^ 61 }
         requires index { self.old.poster.side.index < 2 ^ 61 }
-        ensures { self.new ≡ with_call self.old (Some (fresh_call count)) }
+        ensures begun { self.new ≡ with_call self.old (Some (fresh_call count)) }
+        ensures soon { turns_left self.new ≤ 64 * count + 64 }
     {
         self.side.begin(count);
     }
@@ -112,7 +113,8 @@ impl PostSide {
         self.side.forget();
     }
 
-    /// Makes one operation of the call, whose list this is at each of its turns.
+    /// Makes one operation of the call, whose list this is at each of its turns. Each leaves fewer turns of
+    /// the call, of which `begin` says how many there are at most.
     pub fn turn<P: BusPort>(&mut self, port: &mut P, list: &[Request]) -> Step<(), PostAnswer>
         requires busy { IsSome self.old.call }
         requires list { IsListOf self.old (map TheRequest list.now) }

@@ -1,5 +1,5 @@
 //! Posts to a receive queue.
-ghost use Rattle.std.specs.Prelude.{◌≡◌, ◌<◌, ◌≤◌, ◌+◌, ◌^◌, ◌↔◌, IsTrue, IsSome, Some, None, length, map};
+ghost use Rattle.std.specs.Prelude.{◌≡◌, ◌<◌, ◌≤◌, ◌+◌, ◌*◌, ◌^◌, ◌↔◌, IsTrue, IsSome, Some, None, length, map};
 ghost use Rattle.std.specs.List.{AllByRecursion};
 ghost use Rattle.bus_core.specs.Port.{Appends};
 ghost use Rattle.bus_core.specs.declared.operation.BusEntry.{BusEntry};
@@ -17,7 +17,7 @@ ghost use Rattle.actor_map.specs.Sizes.{words_of};
 ghost use Rattle.object_places.specs.Places.{receive_of, qp_line, IsWithin};
 ghost use Rattle.provider_post.specs.Call.{fresh_call};
 ghost use Rattle.provider_post.specs.Item.{IsReceiveEntry};
-ghost use Rattle.provider_post.specs.Side.{PostTurn, IsListOf, MayDrop, call_of, forgotten, fresh_view, with_call};
+ghost use Rattle.provider_post.specs.Side.{PostTurn, IsListOf, MayDrop, call_of, forgotten, fresh_view, turns_left, with_call};
 ghost use Rattle.provider_post.specs.Queued.{IsBegun};
 ghost use Rattle.provider_post.specs.Inside.{IsReceives};
 
@@ -72,14 +72,15 @@ impl RecvSide {
         }
     }
 
-    /// Starts a call of `count` receives, 1 to 16.
+    /// Starts a call of `count` receives, 1 to 16. It ends within 64 turns a receive and 64 more.
     pub fn begin(&mut self, count: u32)
         requires idle { self.old.call ≡ None }
         requires some { 0 < count }
         requires few { count ≤ 16 }
         requires posted { self.old.poster.side.count < 2 ^ 61 }
         requires index { self.old.poster.side.index < 2 ^ 61 }
-        ensures { self.new ≡ with_call self.old (Some (fresh_call count)) }
+        ensures begun { self.new ≡ with_call self.old (Some (fresh_call count)) }
+        ensures soon { turns_left self.new ≤ 64 * count + 64 }
     {
         self.side.begin(count);
     }
@@ -117,7 +118,8 @@ impl RecvSide {
         self.side.forget();
     }
 
-    /// Makes one operation of the call, whose list this is at each of its turns.
+    /// Makes one operation of the call, whose list this is at each of its turns. Each leaves fewer turns of
+    /// the call, of which `begin` says how many there are at most.
     pub fn turn<P: BusPort>(&mut self, port: &mut P, list: &[Receive]) -> Step<(), PostAnswer>
         requires busy { IsSome self.old.call }
         requires list { IsListOf self.old (map TheReceive list.now) }

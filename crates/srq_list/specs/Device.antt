@@ -20,7 +20,7 @@ pub record Taker : Type 0 where
   pub progress : Progress
 
 abbrev pub at_progress : Taker → Progress → Taker
-at_progress d progress = record { taken = d.taken; slot = d.slot; progress = progress }
+at_progress d progress = record d { progress = progress }
 
 -- how many receives a record word shows that were not taken
 abbrev pub ready : ℕ → Taker → ℕ → ℕ

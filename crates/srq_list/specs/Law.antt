@@ -40,9 +40,9 @@ fresh_users place = record { poster = poster.fresh_side; freer = freer.fresh_sid
 
 -- the users after an operation, and what it says
 abbrev pub after_by : SrqPlace → ℕ → User → Users → Marked SrqMark → Users
-after_by place start Posting u x = record { poster = after_post place u.poster x.mark x.entry; freer = u.freer; taker = u.taker }
-after_by place start Freeing u x = record { poster = u.poster; freer = after_serve u.freer x.mark; taker = u.taker }
-after_by place start Taking u x = record { poster = u.poster; freer = u.freer; taker = after_take place start u.taker x.mark x.entry }
+after_by place start Posting u x = record u { poster = after_post place u.poster x.mark x.entry }
+after_by place start Freeing u x = record u { freer = after_serve u.freer x.mark }
+after_by place start Taking u x = record u { taker = after_take place start u.taker x.mark x.entry }
 after_by place start Watching u x = u
 
 abbrev pub says_by : SrqPlace → ℕ → User → Users → Marked SrqMark → Option SrqEvent

@@ -24,7 +24,7 @@ pub record Poster : Type 0 where
   pub stage : Stage
 
 abbrev pub at_stage : Poster → Stage → Poster
-at_stage p stage = record { rung = p.rung; first = p.first; written = p.written; head = p.head; stage = stage }
+at_stage p stage = record p { stage = stage }
 
 -- behind all that it wrote, or, where it drops that, behind what it rang for
 abbrev pub IsBehind : Poster → ℕ → ℕ → Type 0

@@ -93,4 +93,4 @@ fresh place start = record { place = place; start = start; side = fresh_side; ta
 
 -- an idle poster that has written only what was rung
 abbrev pub forgotten : PosterView → PosterView
-forgotten p = record { place = p.place; start = p.start; side = dropped p.side; task = None; seen = p.seen }
+forgotten p = record p { side = dropped p.side; task = None }

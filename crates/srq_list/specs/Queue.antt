@@ -107,18 +107,18 @@ MayHappen place q (Took slot words) = MayTake q slot words
 
 -- of the receives that were written and not rung, these first ones are left
 abbrev pub cut : SharedQueue → ℕ → SharedQueue
-cut q pending = record { chain = q.chain; receives = take (q.rung + pending) q.receives; rung = q.rung; taken = q.taken }
+cut q pending = record q { receives = take (q.rung + pending) q.receives }
 
 abbrev pub after_event : SharedQueue → SrqEvent → SharedQueue
 after_event q (Began pending) = cut q pending
 after_event q (Full pending slot) = cut q pending
-after_event q (Wrote receive) = record { chain = q.chain; receives = q.receives ++ receive ∷ []; rung = q.rung; taken = q.taken }
-after_event q (Rang pending) = record { chain = q.chain; receives = take (q.rung + pending) q.receives; rung = q.rung + pending; taken = q.taken }
+after_event q (Wrote receive) = record q { receives = q.receives ++ receive ∷ [] }
+after_event q (Rang pending) = record q { receives = take (q.rung + pending) q.receives; rung = q.rung + pending }
 after_event q (Found slot id) = q
-after_event q (Freed slot) = record { chain = q.chain ++ slot ∷ []; receives = q.receives; rung = q.rung; taken = q.taken }
+after_event q (Freed slot) = record q { chain = q.chain ++ slot ∷ [] }
 after_event q (Showed posted) = q
 after_event q (NoneThere taken) = q
-after_event q (Took slot words) = record { chain = q.chain; receives = q.receives; rung = q.rung; taken = q.taken + 1 }
+after_event q (Took slot words) = record q { taken = q.taken + 1 }
 
 abbrev pub IsLegal : SrqPlace → SharedQueue → List SrqEvent → Type 0
 IsLegal place q events = Follows (MayHappen place) after_event q events

@@ -23,12 +23,11 @@ use Rattle.provider_poll.specs.declared.state.End.{End}
 use Rattle.provider_poll.specs.declared.state.PollState.{PollState}
 use Rattle.provider_poll.specs.declared.state.PollState.TheVariants as states
 use Rattle.provider_poll.specs.declared.poll_step.PollStep.{PollStep}
-use Rattle.provider_poll.specs.FollowsRule.{place_of, queue_place}
+use Rattle.provider_poll.specs.FollowsRule.{IsInside, OnRing, OnSends, place_of, queue_place}
 use Rattle.provider_poll.specs.Fresh.{poll_place, sender_place, senders, completes_to}
-use Rattle.provider_poll.specs.Poll.{PollView, PollTurn, Turns, RetiresFirst}
+use Rattle.provider_poll.specs.Poll.{PollView}
 use Rattle.provider_poll.specs.Rule.{PollPlace, QueuePlace}
 use Rattle.provider_poll.specs.SendQueue.{SendView}
-use Rattle.provider_poll.proofs.Sides.{asking_stays}
 use Rattle.thread_actor.proofs.Senders.{from_least, below_most}
 
 -- the place of a queue of the side is that of a queue pair
@@ -79,17 +78,7 @@ module _ (d : Lines) (cq : ℕ) (placed : ArePlaced) (declared : IsTrue (is_decl
   in_ring : (a : ℕ) → ring.touches (ring_of side.host.place) a ≡ true → a < words_of d
   in_ring a touched = ((placed d (Completions cq) declared lives).inside a (subst (λ (p : CqPlace). ring.touches (ring_of p) a ≡ true) (ap (λ (p : PollPlace). p.cq) is) touched)).1
 
-  retires_in : (new : List SendView) (taken : ℕ) (empty : Option ℕ) (ends : List End) (e : BusEntry) (turned : PollStep) → RetiresFirst side.queues new taken empty ends e turned → e.addr < words_of d
-  retires_in new taken empty [] e turned t = absurd t
-  retires_in new taken empty (first ∷ left) e turned t = in_queue t.before e.addr (is_at first.queue t.before t.within.found) t.queue_turn.retirer.inside
-
-  turns_in : (state : PollState) (new : PollView) (e : BusEntry) (turned : PollStep) → Turns state side new e turned → e.addr < words_of d
-  turns_in states.Idle new e turned t = absurd t
-  turns_in (states.Polling asked ends) new e turned t = in_ring e.addr t.0.host_turn.inside
-  turns_in (states.LookingUp asked ends c queue) new e turned t =
-      in_queue t.0.before e.addr (is_at queue t.0.before t.0.within.found) (subst (λ (p : WqPlace). counted.touches p e.addr ≡ true) (asking_stays c.counter t.0.before) t.0.queue_turn.retirer.inside)
-  turns_in (states.Retiring taken empty left) new e turned t = retires_in new.queues taken empty left.items e turned t.0
-  turns_in (states.Acking taken empty) new e turned t = in_ring e.addr t.0.host_turn.inside
-
-  pub poll_inside : (new : PollView) (e : BusEntry) (answer : Step Completion PollAnswer) → PollTurn side new e answer → e.addr < words_of d
-  poll_inside new e answer t = turns_in side.state new e t.turned t.turns
+  -- each word of the side is one of the declared objects'
+  pub poll_inside : (address : ℕ) → IsInside side address → address < words_of d
+  poll_inside address (OnRing touched) = in_ring address touched
+  poll_inside address (OnSends queue q found touched) = in_queue q address (is_at queue q found) touched

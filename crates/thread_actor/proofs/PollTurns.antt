@@ -26,7 +26,7 @@ use Rattle.provider_poll.specs.declared.state.PollState.{PollState}
 use Rattle.provider_poll.specs.declared.state.PollState.TheVariants as states
 use Rattle.provider_poll.specs.declared.poll_step.PollStep.{PollStep}
 use Rattle.provider_poll.specs.FollowsRule as follows
-use Rattle.provider_poll.specs.FollowsRule.{FollowsRule, TurnsFollow}
+use Rattle.provider_poll.specs.FollowsRule.{FollowsRule}
 use Rattle.provider_poll.specs.Fresh as side
 use Rattle.provider_poll.specs.Poll.{PollView, LiesWithin}
 use Rattle.provider_poll.specs.Rule.{PollPlace, PollRule, PollMark, MayPollSide}
@@ -100,7 +100,7 @@ module _ {V : Type 0} (values : ℕ → V) where
 module _ (v : ThreadView) (sides : SidesView) (call now : Call) (cq most : ℕ) (kind : IsTake call now cq most) (stands : IsThread v)
     (found : slice_get v.program v.finished ≡ Some call) (left : calls_left v ≡ now ∷ drop (v.finished + 1) v.program)
     (before after : PollView) (moves : MovesPoll v.sides sides cq before after) (given : List Completion)
-    (e : BusEntry) (out : Polled) (goes : GoesOn before after most v.given given e out) (placed : ArePlaced) (follow : TurnsFollow) where
+    (e : BusEntry) (out : Polled) (goes : GoesOn before after most v.given given e out) (placed : ArePlaced) where
   abbrev d : Lines
   d = v.lines
 
@@ -120,7 +120,7 @@ module _ (v : ThreadView) (sides : SidesView) (call now : Call) (cq most : ℕ) 
   lives = subst (Lives v.lines) (sym kind.object) (each_at (CanCall v.lines) v.program v.finished call found stands.calls).lives
 
   kept_rule : FollowsRule (begun before most) after e goes.answer
-  kept_rule = follow (begun before most) after e goes.answer goes.turn
+  kept_rule = goes.turn.follows
 
   abbrev pm : PollMark
   pm = kept_rule.mark
@@ -196,7 +196,7 @@ module _ (v : ThreadView) (sides : SidesView) (call now : Call) (cq most : ℕ) 
     after_side : IsPollSide v.lines cq after
     after_side = record {
       place = kept_rule.place ∙ (place_begun before most ∙ is.place);
-      within = stays_within (words_of v.lines) (begun before most) after e goes.answer goes.turn (within_begun (words_of v.lines) before most is.within);
+      within = stays_within (words_of v.lines) (begun before most) after kept_rule.place (within_begun (words_of v.lines) before most is.within);
     }
 
     polls : (other : ℕ) → IfThere (IsPollSide v.lines other) (poll_side sides other)
@@ -276,7 +276,7 @@ module _ (v : ThreadView) (sides : SidesView) (call now : Call) (cq most : ℕ) 
           ended
           ∙ sym (after_is' (marked e mark)) ∙ ap (λ (calls : List Call). after_call v.lines (thread_of v) calls (marked e mark)) (sym left);
       noted = coe 1 0 (i. IsNoteOf (call_says v.lines (thread_of v) (left i) (marked e mark)) ((ap (λ (calls : List Call). call_sees v.lines (thread_of v) calls (marked e mark)) left ∙ kind.sees v.lines (thread_of v) (marked e mark) rest) i) note) noted;
-      inside = poll_inside v.lines cq placed stands.declared lives (begun before most) (place_begun before most ∙ is.place) after e goes.answer goes.turn;
+      inside = poll_inside v.lines cq placed stands.declared lives (begun before most) (place_begun before most ∙ is.place) e.addr goes.turn.inside;
       same = record { lines = same_lines; number = number; program = program };
       rises = λ bound below. record {
         posters = λ queue. subst (IsPosterBelow (bound + 64)) (sym (posters_after queue)) (weaken_poster bound ((thread_of v).posters queue) (below.posters queue));
@@ -362,41 +362,41 @@ is_drain cq count left = record {
 
 module _ (v : ThreadView) (sides : SidesView) (cq most : ℕ) (some : 0 < most) (stands : IsThread v) (found : slice_get v.program v.finished ≡ Some (Poll cq most))
     (before after : PollView) (moves : MovesPoll v.sides sides cq before after) (given : List Completion)
-    (e : BusEntry) (out : Polled) (goes : GoesOn before after most v.given given e out) (placed : ArePlaced) (follow : TurnsFollow) where
+    (e : BusEntry) (out : Polled) (goes : GoesOn before after most v.given given e out) (placed : ArePlaced) where
   abbrev left_poll : calls_left v ≡ Poll cq most ∷ drop (v.finished + 1) v.program
   left_poll = ap (left_of v.taken) (drop_there v.program v.finished (Poll cq most) found)
 
   poll_by : (o : Option ℕ) → taken_by goes.answer ≡ o → Goes v (moved v (after_poll (record { finished = v.finished; taken = v.taken }) o).finished (after_poll (record { finished = v.finished; taken = v.taken }) o).taken given sides) e out.noted
   poll_by None more = record {
-    turn = turns v sides (Poll cq most) (Poll cq most) cq most (is_poll cq most some) stands found left_poll before after moves given e out goes placed follow
+    turn = turns v sides (Poll cq most) (Poll cq most) cq most (is_poll cq most some) stands found left_poll before after moves given e out goes placed
         (moved v v.finished v.taken given sides) refl refl out.noted (calls_after_poll (calls_left v) (drop (v.finished + 1) v.program)) refl refl refl refl (λ x. refl)
         (poll_next_on (calls_left v) (drop (v.finished + 1) v.program) goes.answer more)
         (ap (posting_in (moved v v.finished v.taken given sides)) left_poll)
-        (noted_poll v sides (Poll cq most) (Poll cq most) cq most (is_poll cq most some) stands found left_poll before after moves given e out goes placed follow);
-    stands = stands_taking v sides (Poll cq most) (Poll cq most) cq most (is_poll cq most some) stands found left_poll before after moves given e out goes placed follow more;
+        (noted_poll v sides (Poll cq most) (Poll cq most) cq most (is_poll cq most some) stands found left_poll before after moves given e out goes placed);
+    stands = stands_taking v sides (Poll cq most) (Poll cq most) cq most (is_poll cq most some) stands found left_poll before after moves given e out goes placed more;
     finished = omega arith;
   }
   poll_by (Some k) over = record {
-    turn = turns v sides (Poll cq most) (Poll cq most) cq most (is_poll cq most some) stands found left_poll before after moves given e out goes placed follow
+    turn = turns v sides (Poll cq most) (Poll cq most) cq most (is_poll cq most some) stands found left_poll before after moves given e out goes placed
         (moved v (v.finished + 1) 0 given sides) refl refl out.noted (calls_after_poll (calls_left v) (drop (v.finished + 1) v.program)) refl refl refl refl (λ x. refl)
         (left_none (drop (v.finished + 1) v.program) ∙ poll_next_over (calls_left v) (drop (v.finished + 1) v.program) goes.answer k over)
         (none_posting (moved v (v.finished + 1) 0 given sides) (calls_left (moved v (v.finished + 1) 0 given sides)) rests)
-        (noted_poll v sides (Poll cq most) (Poll cq most) cq most (is_poll cq most some) stands found left_poll before after moves given e out goes placed follow);
+        (noted_poll v sides (Poll cq most) (Poll cq most) cq most (is_poll cq most some) stands found left_poll before after moves given e out goes placed);
     stands = subst (λ (g : List Completion). IsThread (moved v (v.finished + 1) 0 g sides))
-        (sym (none_given v sides (Poll cq most) (Poll cq most) cq most (is_poll cq most some) stands found left_poll before after moves given e out goes placed follow k over))
-        (stands_next v sides (Poll cq most) stands found (kept v sides (Poll cq most) (Poll cq most) cq most (is_poll cq most some) stands found left_poll before after moves given e out goes placed follow) rests);
+        (sym (none_given v sides (Poll cq most) (Poll cq most) cq most (is_poll cq most some) stands found left_poll before after moves given e out goes placed k over))
+        (stands_next v sides (Poll cq most) stands found (kept v sides (Poll cq most) (Poll cq most) cq most (is_poll cq most some) stands found left_poll before after moves given e out goes placed) rests);
     finished = omega arith;
   } where
     rests : AllRest sides
-    rests = all_rest v sides (Poll cq most) (Poll cq most) cq most (is_poll cq most some) stands found left_poll before after moves given e out goes placed follow
-        (idle_after v sides (Poll cq most) (Poll cq most) cq most (is_poll cq most some) stands found left_poll before after moves given e out goes placed follow k over)
+    rests = all_rest v sides (Poll cq most) (Poll cq most) cq most (is_poll cq most some) stands found left_poll before after moves given e out goes placed
+        (idle_after v sides (Poll cq most) (Poll cq most) cq most (is_poll cq most some) stands found left_poll before after moves given e out goes placed k over)
 
   pub poll_goes : (p : Progress) → p ≡ after_poll (record { finished = v.finished; taken = v.taken }) out.taken → Goes v (moved v p.finished p.taken given sides) e out.noted
   poll_goes p is' = subst (λ (q : Progress). Goes v (moved v q.finished q.taken given sides) e out.noted) (sym (is' ∙ ap (after_poll (record { finished = v.finished; taken = v.taken })) goes.taken)) (poll_by (taken_by goes.answer) refl)
 
 module _ (v : ThreadView) (sides : SidesView) (cq count : ℕ) (stands : IsThread v) (found : slice_get v.program v.finished ≡ Some (Drain cq count))
     (before after : PollView) (moves : MovesPoll v.sides sides cq before after) (given : List Completion)
-    (e : BusEntry) (out : Polled) (goes : GoesOn before after 1 v.given given e out) (placed : ArePlaced) (follow : TurnsFollow) where
+    (e : BusEntry) (out : Polled) (goes : GoesOn before after 1 v.given given e out) (placed : ArePlaced) where
   abbrev left_drain : calls_left v ≡ Drain cq (count - v.taken) ∷ drop (v.finished + 1) v.program
   left_drain = ap (left_of v.taken) (drop_there v.program v.finished (Drain cq count) found)
 
@@ -406,21 +406,21 @@ module _ (v : ThreadView) (sides : SidesView) (cq count : ℕ) (stands : IsThrea
 
   drain_turn : (finished taken : ℕ) → calls_left (moved v finished taken given sides) ≡ next goes.answer → posting_in (moved v finished taken given sides) (calls_left (moved v finished taken given sides)) ≡ None
       → ThreadTurn v (moved v finished taken given sides) e (note_in_drain out)
-  drain_turn finished taken calls posting = turns v sides (Drain cq count) (Drain cq (count - v.taken)) cq 1 (is_drain cq count (count - v.taken)) stands found left_drain before after moves given e out goes placed follow
+  drain_turn finished taken calls posting = turns v sides (Drain cq count) (Drain cq (count - v.taken)) cq 1 (is_drain cq count (count - v.taken)) stands found left_drain before after moves given e out goes placed
       (moved v finished taken given sides) refl refl (note_in_drain out) next refl refl refl refl (λ x. refl) calls posting
-      (noted_drain v sides (Drain cq count) (Drain cq (count - v.taken)) cq 1 (is_drain cq count (count - v.taken)) stands found left_drain before after moves given e out goes placed follow)
+      (noted_drain v sides (Drain cq count) (Drain cq (count - v.taken)) cq 1 (is_drain cq count (count - v.taken)) stands found left_drain before after moves given e out goes placed)
 
   keeps : KeepsSides v sides
-  keeps = kept v sides (Drain cq count) (Drain cq (count - v.taken)) cq 1 (is_drain cq count (count - v.taken)) stands found left_drain before after moves given e out goes placed follow
+  keeps = kept v sides (Drain cq count) (Drain cq (count - v.taken)) cq 1 (is_drain cq count (count - v.taken)) stands found left_drain before after moves given e out goes placed
 
   -- where the poll is over
   module _ (k : ℕ) (over : taken_by goes.answer ≡ Some k) where
     rests_now : AllRest sides
-    rests_now = all_rest v sides (Drain cq count) (Drain cq (count - v.taken)) cq 1 (is_drain cq count (count - v.taken)) stands found left_drain before after moves given e out goes placed follow
-        (idle_after v sides (Drain cq count) (Drain cq (count - v.taken)) cq 1 (is_drain cq count (count - v.taken)) stands found left_drain before after moves given e out goes placed follow k over)
+    rests_now = all_rest v sides (Drain cq count) (Drain cq (count - v.taken)) cq 1 (is_drain cq count (count - v.taken)) stands found left_drain before after moves given e out goes placed
+        (idle_after v sides (Drain cq count) (Drain cq (count - v.taken)) cq 1 (is_drain cq count (count - v.taken)) stands found left_drain before after moves given e out goes placed k over)
 
     none_now : given ≡ []
-    none_now = none_given v sides (Drain cq count) (Drain cq (count - v.taken)) cq 1 (is_drain cq count (count - v.taken)) stands found left_drain before after moves given e out goes placed follow k over
+    none_now = none_given v sides (Drain cq count) (Drain cq (count - v.taken)) cq 1 (is_drain cq count (count - v.taken)) stands found left_drain before after moves given e out goes placed k over
 
     -- the drain looks again
     again : (taken : ℕ) → calls_left (moved v v.finished taken given sides) ≡ next goes.answer → Goes v (moved v v.finished taken given sides) e (note_in_drain out)
@@ -477,7 +477,7 @@ module _ (v : ThreadView) (sides : SidesView) (cq count : ℕ) (stands : IsThrea
   drain_by : (o : Option ℕ) → taken_by goes.answer ≡ o → Goes v (moved v (after_drain (record { finished = v.finished; taken = v.taken }) count o).finished (after_drain (record { finished = v.finished; taken = v.taken }) count o).taken given sides) e (note_in_drain out)
   drain_by None more = record {
     turn = drain_turn v.finished v.taken (drain_next_on (calls_left v) (drop (v.finished + 1) v.program) cq (count - v.taken) goes.answer more) (ap (posting_in (moved v v.finished v.taken given sides)) left_drain);
-    stands = stands_taking v sides (Drain cq count) (Drain cq (count - v.taken)) cq 1 (is_drain cq count (count - v.taken)) stands found left_drain before after moves given e out goes placed follow more;
+    stands = stands_taking v sides (Drain cq count) (Drain cq (count - v.taken)) cq 1 (is_drain cq count (count - v.taken)) stands found left_drain before after moves given e out goes placed more;
     finished = omega arith;
   }
   drain_by (Some k) over = over_by k over

@@ -1,5 +1,5 @@
 -- A turn of a thread in a call that posts.
-use Rattle.std.proofs.Common.{◌≡◌, ◌≢◌, inl, inr, ℕ, ◌+◌, ◌≤◌, ◌<◌, arith, refl, sym, ap, ◌∙◌, subst, true, false, Bool, not, List, ◌∷◌, length, map, drop, slice_get, Option, None, Some, IsSome, is_some, IsTrue}
+use Rattle.std.proofs.Common.{◌≡◌, ◌≢◌, inl, inr, ℕ, ◌+◌, ◌≤◌, ◌<◌, arith, refl, sym, ap, ◌∙◌, subst, true, false, Bool, List, ◌∷◌, length, map, drop, slice_get, Option, None, Some, IsSome, IsTrue}
 use Rattle.std.proofs.lemmas.Bool.{cases_Bool, false≢true}
 use Rattle.bus_core.specs.declared.operation.BusEntry.{BusEntry}
 use Rattle.bus_core.specs.declared.turn.Note.{Note}
@@ -23,8 +23,10 @@ use Rattle.object_places.specs.Apart.{ArePlaced}
 use Rattle.object_places.specs.Objects.{Mark, Object, Completions, Sends, Receives, Lives}
 use Rattle.object_places.specs.Places.{IsWithin}
 use Rattle.provider_post.specs.declared.call.Call as post
-use Rattle.provider_post.specs.Call.{mark_of}
-use Rattle.provider_post.specs.Side.{PostView}
+use Rattle.provider_post.specs.Call.{mark_of, answer_with}
+use Rattle.provider_post.specs.Rule.{next_call}
+use Rattle.provider_post.specs.Side.{PostView, rule_of}
+use Rattle.provider_post.proofs.Rule.{answers}
 use Rattle.provider_poll.specs.declared.state.PollState.TheVariants as states
 use Rattle.provider_poll.specs.Poll.{PollView}
 use Rattle.actor_rules.specs.Thread.{Thread, queue_place}
@@ -34,7 +36,7 @@ use Rattle.thread_actor.specs.declared.posts.Posted.{Posted}
 use Rattle.thread_actor.specs.declared.progress.Progress.{Progress}
 use Rattle.thread_actor.specs.Progress.{after_post}
 use Rattle.thread_actor.specs.Calls.{CanCall, object_of}
-use Rattle.thread_actor.specs.Posts.{GoesOn}
+use Rattle.thread_actor.specs.Posts.{GoesOn, begun, is_over}
 use Rattle.thread_actor.specs.Sides.{SidesView, post_side, IfThere}
 use Rattle.thread_actor.specs.Stands.{IsThread, IsPostSide, IsPollSide, PostRests, Rests, OthersRest, IsPosting, IsPostWork, IsAtWork, HasSideIn}
 use Rattle.thread_actor.specs.Turn.{IsNoteOf, ThreadTurn, marked}
@@ -178,13 +180,13 @@ keeps v new queue before after stands moves place_stays queue_stays = record {
   has (Posts q items) h = some q h
   has (Takes cq taking) h = subst (λ (o : Option PollView). IsSome o) (sym (moves.polls cq)) h
 
-none_left : {C : Type 0} (o : Option C) → not (is_some o) ≡ true → o ≡ None
-none_left None is = refl
-none_left (Some c) is = absurd (false≢true is)
+none_left : (o : Option post.Call) (next : post.Call) → is_over (answer_with o next) ≡ true → o ≡ None
+none_left None next is = refl
+none_left (Some c) next is = absurd (false≢true is)
 
-some_left : {C : Type 0} (o : Option C) → not (is_some o) ≡ false → (c : C) × (o ≡ Some c)
-some_left None is = absurd (false≢true (sym is))
-some_left (Some c) is = (c, refl)
+some_left : (o : Option post.Call) (next : post.Call) → is_over (answer_with o next) ≡ false → (c : post.Call) × (o ≡ Some c)
+some_left None next is = absurd (false≢true (sym is))
+some_left (Some c) next is = (c, refl)
 
 -- a turn and what holds after it
 pub record Goes (v v' : ThreadView) (e : BusEntry) (noted : Option Note) : Type 0 where
@@ -273,11 +275,17 @@ module _ (v : ThreadView) (sides : SidesView) (call : Call) (queue : Queue) (ite
     listed : IsPosting items after
     listed = record { list = goes.turn.goes_on; rests = λ none. (goes.turn.rest none).task }
 
+  abbrev next : post.Call
+  next = next_call before.poster.place (rule_of (begun before (length items))) e
+
+  over_is : posted.is_over ≡ is_over (answer_with after.call next)
+  over_is = goes.over ∙ ap is_over (answers (begun before (length items)) after items e goes.answer goes.turn)
+
   pub post_goes : (p : Progress) → p ≡ after_post (record { finished = v.finished; taken = v.taken }) posted.is_over → Goes v (moved v p.finished p.taken v.given sides) e posted.noted
   post_goes p is = subst (λ (q : Progress). Goes v (moved v q.finished q.taken v.given sides) e posted.noted) (sym is)
       (elim (cases_Bool posted.is_over) [
-        | inl yes' ↦ subst (λ (b : Bool). Goes v (moved v (after_post now b).finished (after_post now b).taken v.given sides) e posted.noted) (sym yes') (over (none_left after.call (sym goes.over ∙ yes')))
-        | inr no' ↦ let c = some_left after.call (sym goes.over ∙ no') in
+        | inl yes' ↦ subst (λ (b : Bool). Goes v (moved v (after_post now b).finished (after_post now b).taken v.given sides) e posted.noted) (sym yes') (over (none_left after.call next (sym over_is ∙ yes')))
+        | inr no' ↦ let c = some_left after.call next (sym over_is ∙ no') in
             subst (λ (b : Bool). Goes v (moved v (after_post now b).finished (after_post now b).taken v.given sides) e posted.noted) (sym no') (on c.0 c.1)
       ]) where
         now : Progress

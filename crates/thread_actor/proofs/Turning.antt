@@ -14,7 +14,6 @@ use Rattle.verbs_types.specs.declared.request.Receive.{Receive}
 use Rattle.verbs_types.specs.declared.request.Request.{Request}
 use Rattle.object_places.specs.Apart.{ArePlaced}
 use Rattle.provider_post.specs.Side.{PostView}
-use Rattle.provider_poll.specs.FollowsRule.{TurnsFollow}
 use Rattle.provider_poll.specs.Poll.{PollView}
 use Rattle.thread_actor.specs.declared.polls.Polled.{Polled}
 use Rattle.thread_actor.specs.declared.posts.Posted.{Posted}
@@ -62,7 +61,7 @@ module _ (v : ThreadView) (stands : IsThread v) (placed : ArePlaced) (e : BusEnt
       (moves_receive v.sides qp posts.before posts.after (receive_there v stands qp receives found).least posts.found))
       e posted posts.goes placed p is
 
-  module _ (follow : TurnsFollow) (given : List Completion) (out : Polled) (new : List (Option PollView)) (cq : ℕ) where
+  module _ (given : List Completion) (out : Polled) (new : List (Option PollView)) (cq : ℕ) where
     moves : (most : ℕ) (polls : Polls v.sides.polls new cq most v.given given e out) → MovesPoll v.sides (with_polls v.sides new) cq polls.before polls.after
     moves most polls = subst (λ (sides : List (Option PollView)). MovesPoll v.sides (with_polls v.sides sides) cq polls.before polls.after) (sym polls.sides)
         (moves_poll v.sides cq polls.before polls.after polls.found)
@@ -71,9 +70,9 @@ module _ (v : ThreadView) (stands : IsThread v) (placed : ArePlaced) (e : BusEnt
         → Goes v (moved v p.finished p.taken given (with_polls v.sides new)) e out.noted
     poll_turn most found polls is =
         poll_goes v (with_polls v.sides new) cq most (each_at (CanCall v.lines) v.program v.finished (Poll cq most) found stands.calls).fits.0 stands found polls.before polls.after (moves most polls)
-        given e out polls.goes placed follow p is
+        given e out polls.goes placed p is
 
     pub drain_turn : (count : ℕ) → slice_get v.program v.finished ≡ Some (Drain cq count) → Polls v.sides.polls new cq 1 v.given given e out → p ≡ after_drain (progress_of v) count out.taken
         → Goes v (moved v p.finished p.taken given (with_polls v.sides new)) e (note_in_drain out)
     drain_turn count found polls is =
-        drain_goes v (with_polls v.sides new) cq count stands found polls.before polls.after (moves 1 polls) given e out polls.goes placed follow p is
+        drain_goes v (with_polls v.sides new) cq count stands found polls.before polls.after (moves 1 polls) given e out polls.goes placed p is

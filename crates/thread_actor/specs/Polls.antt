@@ -12,7 +12,8 @@ use Rattle.provider_poll.specs.declared.answer.PollAnswer.TheVariants.{Polled as
 use Rattle.provider_poll.specs.declared.state.PollState.{PollState}
 use Rattle.provider_poll.specs.declared.state.PollState.TheVariants.{Idle}
 use Rattle.provider_poll.specs.declared.state.PollState.TheVariants as states
-use Rattle.provider_poll.specs.Poll.{PollView, PollTurn, CanPoll}
+use Rattle.provider_poll.specs.FollowsRule.{PollTurn}
+use Rattle.provider_poll.specs.Poll.{PollView, CanPoll}
 use Rattle.provider_poll.specs.Poll as polls
 use Rattle.actor_rules.specs.Polling.{given_after}
 use Rattle.thread_actor.specs.declared.polls.Polled.{Polled}

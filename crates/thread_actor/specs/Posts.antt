@@ -1,8 +1,9 @@
 -- An operation of a call that posts, which may be about to begin.
-use Rattle.std.specs.Prelude.{ℕ, ◌≡◌, ◌<◌, ◌≤◌, ◌^◌, List, length, is_some, not, slice_get, slice_set, unwrap_or, Option, None, Some}
+use Rattle.std.specs.Prelude.{ℕ, ◌≡◌, ◌<◌, ◌≤◌, ◌^◌, Bool, true, false, List, length, slice_get, slice_set, unwrap_or, Option, None, Some}
 use Rattle.std.specs.List.{AllByRecursion}
 use Rattle.bus_core.specs.declared.operation.BusEntry.{BusEntry}
 use Rattle.bus_core.specs.declared.turn.Step.{Step}
+use Rattle.bus_core.specs.declared.turn.Step.TheVariants.{More, Gave, Done}
 use Rattle.bus_core.specs.Port.{Port}
 use Rattle.verbs_types.specs.declared.request.Item.{Item}
 use Rattle.counted_ring.specs.Turn.{CanServe}
@@ -34,11 +35,15 @@ pub record MayGoOn (side : PostView) (items : List Item) : Type 0 where
   pub list : IsListOf side items
   pub begins : side.call ≡ None → MayBegin side items
 
--- the call has ended exactly where none is under way after the operation
+-- the operation was the call's last one
+abbrev pub is_over : Step (Unit {0}) PostAnswer → Bool
+is_over (Done answer) = true
+is_over _ = false
+
 pub record GoesOn (old new : PostView) (items : List Item) (e : BusEntry) (posted : Posted) : Type 0 where
   pub answer : Step (Unit {0}) PostAnswer
   pub turn : PostTurn (begun old (length items)) new items e answer
-  pub over : posted.is_over ≡ not (is_some new.call)
+  pub over : posted.is_over ≡ is_over answer
   pub noted : posted.noted ≡ new.noted
 
 -- the side of a place can go on

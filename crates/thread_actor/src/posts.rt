@@ -5,9 +5,10 @@ ghost use Rattle.bus_core.specs.declared.operation.BusEntry.{BusEntry};
 ghost use Rattle.counted_ring.specs.Turn.{CanServe};
 ghost use Rattle.verbs_types.specs.declared.request.Item.TheVariants.{Request as TheRequest, Receive as TheReceive};
 ghost use Rattle.thread_actor.specs.Posts.{MayGoOn, GoesOn, Ready, CanServeAt, Posts, CanBegin, begun};
+ghost use Rattle.thread_actor.specs.Posts as words;
 
-use bus_core::{BusPort, Note};
-use provider_post::{PostSide, RecvSide};
+use bus_core::{BusPort, Note, Step};
+use provider_post::{PostAnswer, PostSide, RecvSide};
 use verbs_types::{Receive, Request};
 
 /// What an operation of a post came to.
@@ -42,9 +43,9 @@ fn post_on<P: BusPort>(side: &mut PostSide, requests: &[Request], port: &mut P) 
     ensures { (e : BusEntry) × Appends (P.port port.old) (P.port port.new) e × GoesOn side.old side.new (map TheRequest requests.now) e result }
 {
     begin_post(side, requests.len());
-    side.turn(port, requests);
+    let answer = side.turn(port, requests);
     Posted {
-        is_over: side.is_idle(),
+        is_over: is_over(answer),
         noted: side.note(),
     }
 }
@@ -82,9 +83,9 @@ fn receive_on<P: BusPort>(side: &mut RecvSide, receives: &[Receive], port: &mut 
     ensures { (e : BusEntry) × Appends (P.port port.old) (P.port port.new) e × GoesOn side.old side.new (map TheReceive receives.now) e result }
 {
     begin_receive(side, receives.len());
-    side.turn(port, receives);
+    let answer = side.turn(port, receives);
     Posted {
-        is_over: side.is_idle(),
+        is_over: is_over(answer),
         noted: side.note(),
     }
 }
@@ -97,4 +98,11 @@ fn begin_receive(side: &mut RecvSide, count: usize)
     if side.is_idle() {
         side.begin(count as u32);
     }
+}
+
+/// Whether the operation was the call's last one.
+fn is_over(answer: Step<(), PostAnswer>) -> bool
+    ensures { result ≡ words.is_over answer }
+{
+    matches!(answer, Step::Done(_))
 }

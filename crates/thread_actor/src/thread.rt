@@ -19,7 +19,6 @@ use crate::sides::{Sides, place_of};
 use actor_map::AddressMap;
 use bus_core::{BusPort, Note};
 use object_places::laws::places;
-use provider_poll::laws::turns_follow;
 use std::alloc::Global;
 use std::snapshot::Snapshot;
 use verbs_types::{Call, Declared, NoMemory, Sequence};
@@ -73,9 +72,8 @@ impl Thread {
         ensures operation { (e : BusEntry) × Appends (P.port port.old) (P.port port.new) e × ThreadTurn (view_of self.old) (view_of self.new) e result × IsThread (view_of self.new) }
         ensures finished { self.old.progress.finished ≤ self.new.progress.finished }
     {
-        // Where the queues' words lie, and what the operations of a poll are.
+        // Where the queues' words lie.
         places();
-        turns_follow();
         match self.calls.as_slice().get(self.progress.finished) {
             None => {
                 end(self.number, port);

@@ -7,8 +7,8 @@ use Rattle.thread_actor.specs.Posts.{begun}
 use Rattle.thread_actor.proofs.Beginning.{begun_list}
 use Rattle.thread_actor.proofs.posts.post_on.Goals as goal
 
-pub turn-requires-clause-list : goal.turn-requires-clause-list
-turn-requires-clause-list g c =
+pub turn-answer-requires-clause-list : goal.turn-answer-requires-clause-list
+turn-answer-requires-clause-list g c =
     let items = map (λ x. TheRequest x) c.args.requests.now in
     subst (λ (side : PostView). IsListOf side items) (sym c.begin_post.ensures)
     (subst (λ (n : ℕ). IsListOf (begun c.args.side.now n) items) (length-map c.args.requests.now (λ x. TheRequest x)) (begun_list c.args.side.now items c.requires.may))

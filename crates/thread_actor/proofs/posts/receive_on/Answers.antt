@@ -7,8 +7,8 @@ use Rattle.thread_actor.specs.Posts.{begun}
 use Rattle.thread_actor.proofs.Beginning.{begun_list}
 use Rattle.thread_actor.proofs.posts.receive_on.Goals as goal
 
-pub turn-requires-clause-list : goal.turn-requires-clause-list
-turn-requires-clause-list g c =
+pub turn-answer-requires-clause-list : goal.turn-answer-requires-clause-list
+turn-answer-requires-clause-list g c =
     let items = map (λ x. TheReceive x) c.args.receives.now in
     subst (λ (side : PostView). IsListOf side items) (sym c.begin_receive.ensures)
     (subst (λ (n : ℕ). IsListOf (begun c.args.side.now n) items) (length-map c.args.receives.now (λ x. TheReceive x)) (begun_list c.args.side.now items c.requires.may))

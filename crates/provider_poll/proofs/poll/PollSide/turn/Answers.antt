@@ -2,17 +2,19 @@ use Rattle.std.proofs.Common.{◌≡◌, ℕ, sym, ap, ◌∙◌, subst, List, �
 use Rattle.bus_core.specs.declared.turn.Note.{Note}
 use Rattle.cq_pair.specs.declared.place.CqPlace.{CqPlace}
 use Rattle.provider_poll.specs.declared.state.PollState.{PollState}
-use Rattle.provider_poll.specs.declared.state.PollState.TheVariants.{LookingUp, Retiring}
+use Rattle.provider_poll.specs.declared.state.PollState.TheVariants.{Polling, LookingUp, Retiring, Acking}
 use Rattle.provider_poll.specs.declared.state.End.{End}
 use Rattle.provider_poll.specs.declared.poll_step.PollStep.{PollStep}
-use Rattle.provider_poll.specs.Turns.{LooksUp}
-use Rattle.provider_poll.specs.Poll.{PollView, PollTurn}
+use Rattle.provider_poll.specs.Turns.{Looks, LooksUp, Acknowledges}
+use Rattle.provider_poll.specs.FollowsRule.{PollTurn}
+use Rattle.provider_poll.specs.Poll.{PollView}
 use Rattle.provider_poll.specs.PollInside.{IsAtWork}
 use Rattle.provider_poll.proofs.Hosts.{polled}
 use Rattle.provider_poll.proofs.Kept.{looks, looked_up, retired}
 use Rattle.provider_poll.proofs.Sides as sides
 use Rattle.provider_poll.proofs.Sides.{side}
 use Rattle.provider_poll.proofs.Changed.{removed}
+use Rattle.provider_poll.proofs.Turned.{turned as turned_as}
 use Rattle.provider_poll.proofs.poll.PollSide.turn.Goals as goal
 
 pub invariant_of-self : goal.invariant_of-self
@@ -46,6 +48,36 @@ invariant_of-self-in-Retiring g c =
     let kept = retired h c.self.inside.queues new c.retire-turned.ensures.0 turned c.in-Retiring.taken c.in-Retiring.empty c.remove-first.result c.remove-first.new.self.items c.retire-turned.ensures.2 work.task in
     record { number = c.self.invariant.number; entry = c.self.invariant.entry; work = kept }
 
+pub returns-in-Polling : goal.returns-in-Polling
+returns-in-Polling g c =
+    let h = c.self.inside.host in
+    let new = c.look-turned.new.host in
+    let queues = c.self.inside.queues in
+    let e = c.look-turned.ensures.0 in
+    let turned = c.look-turned.result in
+    let max = c.in-Polling.max in
+    let ends = c.in-Polling.ends in
+    let noted = c.self.inside.noted in
+    let looks = subst (λ (number : ℕ). Looks number h new queues max ends e turned) c.self.invariant.number c.look-turned.ensures.2 in
+    let work = subst (λ (s : PollState). IsAtWork h queues s) (sym c.in-Polling.ensures.value) c.self.invariant.work in
+    let before : side noted e turned h queues (Polling max ends) noted ≡ c.args.self.now = ap (λ (s : PollState). side noted e turned h queues s noted) c.in-Polling.ensures.value ∙ c.self.view_is in
+    (e, c.look-turned.ensures.1, subst (λ (v : PollView). PollTurn v (side noted e turned new queues turned.state turned.noted) e turned.answer) before (turned_as _ _ e turned.answer (sides.looks noted e turned h new queues max ends looks) work))
+
+pub returns-in-Acking : goal.returns-in-Acking
+returns-in-Acking g c =
+    let h = c.self.inside.host in
+    let new = c.acknowledge-turned.new.host in
+    let queues = c.self.inside.queues in
+    let e = c.acknowledge-turned.ensures.0 in
+    let turned = c.acknowledge-turned.result in
+    let taken = c.in-Acking.taken in
+    let empty = c.in-Acking.empty in
+    let noted = c.self.inside.noted in
+    let stores = subst (λ (number : ℕ). Acknowledges number h new taken empty e turned) c.self.invariant.number c.acknowledge-turned.ensures.2 in
+    let work = subst (λ (s : PollState). IsAtWork h queues s) (sym c.in-Acking.ensures.value) c.self.invariant.work in
+    let before : side noted e turned h queues (Acking taken empty) noted ≡ c.args.self.now = ap (λ (s : PollState). side noted e turned h queues s noted) c.in-Acking.ensures.value ∙ c.self.view_is in
+    (e, c.acknowledge-turned.ensures.1, subst (λ (v : PollView). PollTurn v (side noted e turned new queues turned.state turned.noted) e turned.answer) before (turned_as _ _ e turned.answer (sides.acknowledges noted e turned h new queues taken empty stores) work))
+
 pub returns-in-LookingUp : goal.returns-in-LookingUp
 returns-in-LookingUp g c =
     let h = c.self.inside.host in
@@ -62,7 +94,8 @@ returns-in-LookingUp g c =
     let u = subst (λ (number : ℕ). LooksUp number h.seen old new max ends completion queue e turned) c.self.invariant.number
     (subst (λ (seen : ℕ). LooksUp c.self.inside.number seen old new max ends completion queue e turned) seen c.look_up-turned.ensures.2) in
     let before : side noted e turned h old (LookingUp max ends completion queue) noted ≡ c.args.self.now = ap (λ (s : PollState). side noted e turned h old s noted) c.in-LookingUp.ensures.value ∙ c.self.view_is in
-    (e, c.look_up-turned.ensures.1, subst (λ (v : PollView). PollTurn v (side noted e turned h new turned.state turned.noted) e turned.answer) before (sides.asks noted e turned h old new max ends completion queue u))
+    let work = subst (λ (s : PollState). IsAtWork h old s) (sym c.in-LookingUp.ensures.value) c.self.invariant.work in
+    (e, c.look_up-turned.ensures.1, subst (λ (v : PollView). PollTurn v (side noted e turned h new turned.state turned.noted) e turned.answer) before (turned_as _ _ e turned.answer (sides.asks noted e turned h old new max ends completion queue u) work))
 
 pub returns-in-Retiring : goal.returns-in-Retiring
 returns-in-Retiring g c =
@@ -80,4 +113,5 @@ returns-in-Retiring g c =
     let work = subst (λ (s : PollState). IsAtWork h old s) (sym c.in-Retiring.ensures.value) c.self.invariant.work in
     let all : first ∷ others ≡ left.items = removed left.items others first work.some c.remove-first.ensures.value c.remove-first.ensures.items in
     let before : side noted e turned h old (Retiring taken empty (record { items = first ∷ others })) noted ≡ c.args.self.now = ap (λ (ends : List End). side noted e turned h old (Retiring taken empty (record { items = ends })) noted) all ∙ ap (λ (s : PollState). side noted e turned h old s noted) c.in-Retiring.ensures.value ∙ c.self.view_is in
-    (e, c.retire-turned.ensures.1, subst (λ (v : PollView). PollTurn v (side noted e turned h new turned.state turned.noted) e turned.answer) before (sides.retires noted e turned h old new taken empty first others c.retire-turned.ensures.2))
+    let at_first = subst (λ (ends : List End). IsAtWork h old (Retiring taken empty (record { items = ends }))) (sym all) work in
+    (e, c.retire-turned.ensures.1, subst (λ (v : PollView). PollTurn v (side noted e turned h new turned.state turned.noted) e turned.answer) before (turned_as _ _ e turned.answer (sides.retires noted e turned h old new taken empty first others c.retire-turned.ensures.2) at_first))

@@ -155,7 +155,7 @@ returns-in-Some-Poll g c =
     let written : (with_items c.args.self.now.sides.polls new).items ≡ new = with_items_is c.args.self.now.sides.polls new (c.poll-polled.auto.sides ∙ c.as_mut_slice-sides-in-Some-Poll.ensures.len) in
     let went = subst (λ (sides : List (Option PollView)). Polls sides new cq max v.given given e polled) c.as_mut_slice-sides-in-Some-Poll.ensures.value c.poll-polled.ensures.2 in
     let goes = subst (λ (sides : List (Option PollView)). Goes v (moved v p.finished p.taken given (with_polls v.sides sides)) e polled.noted) (sym written)
-    (poll_turn v c.requires.stands c.places.ensures e p c.turns_follow.ensures given polled new cq max found went c.after_poll-self.ensures) in
+    (poll_turn v c.requires.stands c.places.ensures e p given polled new cq max found went c.after_poll-self.ensures) in
     record { operation = (e, c.poll-polled.ensures.1, goes.turn, goes.stands); finished = goes.finished }
 
 pub returns-in-Some-Drain : goal.returns-in-Some-Drain
@@ -172,6 +172,6 @@ returns-in-Some-Drain g c =
     let written : (with_items c.args.self.now.sides.polls new).items ≡ new = with_items_is c.args.self.now.sides.polls new (c.poll-polled-in-Some-Drain.auto.sides ∙ c.as_mut_slice-sides-in-Some-Drain.ensures.len) in
     let went = subst (λ (sides : List (Option PollView)). Polls sides new cq 1 v.given given e polled) c.as_mut_slice-sides-in-Some-Drain.ensures.value c.poll-polled-in-Some-Drain.ensures.2 in
     let drained = subst (λ (sides : List (Option PollView)). Goes v (moved v p.finished p.taken given (with_polls v.sides sides)) e (note_in_drain polled)) (sym written)
-    (drain_turn v c.requires.stands c.places.ensures e p c.turns_follow.ensures given polled new cq count found went c.after_drain-self.ensures) in
+    (drain_turn v c.requires.stands c.places.ensures e p given polled new cq count found went c.after_drain-self.ensures) in
     let goes = subst (λ (note : Option Note). Goes v (moved v p.finished p.taken given (with_polls v.sides (with_items c.args.self.now.sides.polls new).items)) e note) (sym c.note_in_drain.ensures) drained in
     record { operation = (e, c.poll-polled-in-Some-Drain.ensures.1, goes.turn, goes.stands); finished = goes.finished }

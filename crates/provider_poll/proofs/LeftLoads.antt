@@ -1,4 +1,4 @@
--- How many operations a poll still takes.
+-- Each load of a poll brings it nearer to its end.
 use Rattle.std.proofs.Common.{◌≡◌, ℕ, suc, ◌+◌, ◌-◌, ◌*◌, ◌<◌, ◌≤◌, ◌==◌, nat_lt, refl, sym, ap, subst, arith, Bool, true, false, if◌then◌else◌, List, [], ◌∷◌, ◌++◌, length, get_or, is_some, Option, None, Some}
 use Rattle.std.proofs.lemmas.Bool.{eqb-true, eqb-false, ltb-true, false≢true}
 use Rattle.std.proofs.lemmas.List.{length-append}
@@ -22,6 +22,7 @@ use Rattle.counted_ring.specs.RetirerView.{lookup_turns}
 use Rattle.provider_poll.specs.declared.answer.PollAnswer.{PollAnswer}
 use Rattle.provider_poll.specs.declared.answer.PollAnswer.TheVariants.{Polled}
 use Rattle.provider_poll.specs.Completion.{completion_of}
+use Rattle.provider_poll.specs.Left.{after_entry, poll_left}
 use Rattle.provider_poll.specs.Note.{poll_note}
 use Rattle.provider_poll.specs.declared.state.End.{End}
 use Rattle.provider_poll.specs.declared.state.PollState.{PollState}
@@ -40,38 +41,34 @@ abbrev pub IsHost : Consumer → Type 0
 IsHost (Waiting acked next) = Unit {0}
 IsHost (Reading acked next index last words) = length words ≤ 6
 
+-- where the poll looks at entries
+abbrev pub IsHostIn : PollState → Consumer → Type 0
+IsHostIn (Polling max ends) c = IsHost c
+IsHostIn _ c = Unit {0}
+
+pub host_in : (state : PollState) (c : Consumer) → IsHost c → IsHostIn state c
+host_in Idle c fine = tt
+host_in (Polling max ends) c fine = fine
+host_in (LookingUp max ends completion queue) c fine = tt
+host_in (Retiring taken empty left) c fine = tt
+host_in (Acking taken empty) c fine = tt
+
 abbrev pub IsWaiting : Consumer → Type 0
 IsWaiting (Waiting acked next) = Unit {0}
 IsWaiting (Reading acked next index last words) = ⊥
 
--- the loads of a poll of at most so many go on, which has given a completion for each end
-pub record IsLoading (most : ℕ) (given : List Completion) (max ends : ℕ) : Type 0 where
+-- the loads of a poll of at most `most` go on, which has given a completion for each end
+pub record IsLoading (most given max ends : ℕ) : Type 0 where
   pub asked : max ≡ most
   pub few : ends < most
-  pub given_are : length given ≡ ends
+  pub given_are : given ≡ ends
 
-abbrev pub IsUnderWay : ℕ → List Completion → PollState → Type 0
+abbrev pub IsUnderWay : ℕ → ℕ → PollState → Type 0
 IsUnderWay most given Idle = ⊥
 IsUnderWay most given (Polling max ends) = IsLoading most given max (length ends.items)
 IsUnderWay most given (LookingUp max ends c queue) = IsLoading most given max (length ends.items)
 IsUnderWay most given (Retiring taken empty left) = length left.items ≤ most
 IsUnderWay most given (Acking taken empty) = Unit {0}
-
--- How many operations it takes at most from here on
-
--- an entry takes eight loads and a lookup of two, and then a store; the consumer index is stored last
-abbrev pub after_entry : ℕ → ℕ → ℕ
-after_entry max taken = 11 * (max - taken - 1) + taken + 2
-
-abbrev pub asked_turns : List Retirer → ℕ → ℕ
-asked_turns rs queue = lookup_turns (get_or rs queue fresh_retirer).asked
-
-abbrev pub poll_left : Consumer → List Retirer → PollState → ℕ
-poll_left c rs Idle = 0
-poll_left c rs (Polling max ends) = poll_turns c + 2 + after_entry max (length ends.items)
-poll_left c rs (LookingUp max ends completion queue) = asked_turns rs queue + after_entry max (length ends.items)
-poll_left c rs (Retiring taken empty left) = length left.items + 1
-poll_left c rs (Acking taken empty) = 1
 
 turns_few : (c : Consumer) → poll_turns c ≤ 8
 turns_few (Waiting acked next) = omega arith
@@ -81,7 +78,7 @@ pub lookup_few : (asked : Option Asked) → (1 ≤ lookup_turns asked) × (looku
 lookup_few None = (omega arith, omega arith)
 lookup_few (Some a) = (omega arith, omega arith)
 
-pub poll_few : (most : ℕ) (given : List Completion) (c : Consumer) (rs : List Retirer) (state : PollState) → IsUnderWay most given state → (0 < poll_left c rs state) × (poll_left c rs state ≤ 11 * most + 1)
+pub poll_few : (most given : ℕ) (c : Consumer) (rs : List Retirer) (state : PollState) → IsUnderWay most given state → (0 < poll_left c rs state) × (poll_left c rs state ≤ 11 * most + 1)
 poll_few most given c rs Idle h = absurd h
 poll_few most given c rs (Polling max ends) h = let few = turns_few c in (omega arith, omega (arith, few, h.asked, h.few))
 poll_few most given c rs (LookingUp max ends completion queue) h = let few = lookup_few (get_or rs queue fresh_retirer).asked in (omega arith, omega (arith, few.1, h.asked, h.few))
@@ -89,9 +86,9 @@ poll_few most given c rs (Retiring taken empty left) h = (omega arith, omega (ar
 poll_few most given c rs (Acking taken empty) h = (omega arith, omega arith)
 
 -- what an operation leaves: the poll is over, or takes less
-abbrev pub Goes : ℕ → List Completion → ℕ → PollRule → Step Completion PollAnswer → Type 0
+abbrev pub Goes : ℕ → ℕ → ℕ → PollRule → Step Completion PollAnswer → Type 0
 Goes most given before s More = IsUnderWay most given s.state × (poll_left s.host s.retirers s.state < before)
-Goes most given before s (Gave completion) = IsUnderWay most (given ++ completion ∷ []) s.state × (poll_left s.host s.retirers s.state < before)
+Goes most given before s (Gave completion) = IsUnderWay most (given + 1) s.state × (poll_left s.host s.retirers s.state < before)
 Goes most given before s (Done answer) = (s.state ≡ Idle) × IsWaiting s.host
 
 -- Stores of ends
@@ -104,11 +101,11 @@ from_few queues (x ∷ xs) = by (may_store queues x) (from_few queues xs)
     by true few = omega arith
     by false few = omega (arith, few)
 
-pub record Stores (most : ℕ) (given : List Completion) (c : Consumer) (rs : List Retirer) (ends : ℕ) (state : PollState) : Type 0 where
+pub record Stores (most given : ℕ) (c : Consumer) (rs : List Retirer) (ends : ℕ) (state : PollState) : Type 0 where
   pub stands : IsUnderWay most given state
   pub few : poll_left c rs state ≤ ends + 1
 
-pub stores : (most : ℕ) (given : List Completion) (c : Consumer) (rs : List Retirer) (queues : List SendView) (taken : ℕ) (empty : Option ℕ) (ends : List End) → length ends ≤ most → Stores most given c rs (length ends) (storing queues taken empty ends)
+pub stores : (most given : ℕ) (c : Consumer) (rs : List Retirer) (queues : List SendView) (taken : ℕ) (empty : Option ℕ) (ends : List End) → length ends ≤ most → Stores most given c rs (length ends) (storing queues taken empty ends)
 stores most given c rs queues taken empty ends few = by (from_ready queues ends) (from_few queues ends)
   where
     by : (xs : List End) → length xs ≤ length ends → Stores most given c rs (length ends) (storing_first taken empty xs)
@@ -117,7 +114,7 @@ stores most given c rs queues taken empty ends few = by (from_ready queues ends)
 
 -- What the loads make of the poll
 
-module _ (most : ℕ) (given : List Completion) (seen : ℕ) (number : ℕ) (queues : List SendView) (max : ℕ) (ends : List End) (shown before : ℕ) (h : IsLoading most given max (length ends)) where
+module _ (most given seen number : ℕ) (queues : List SendView) (max : ℕ) (ends : List End) (shown before : ℕ) (h : IsLoading most given max (length ends)) where
   abbrev Made : Consumer → List Retirer → PollStep → Type 0
   Made c rs turned = Goes most given before (record { host = c; seen = seen; retirers = rs; state = turned.state }) turned.answer
 
@@ -128,17 +125,14 @@ module _ (most : ℕ) (given : List Completion) (seen : ℕ) (number : ℕ) (que
       long : length (ends ++ end ∷ []) ≡ length ends + 1
       long = length-append ends (end ∷ [])
 
-      given_long : length (given ++ completion ∷ []) ≡ length given + 1
-      given_long = length-append given (completion ∷ [])
-
       by : (b : Bool) → nat_lt (length ends + 1) max ≡ b
           → Made c rs (if b then record { state = Polling max (record { items = ends ++ end ∷ [] }); answer = Gave completion; noted = None } else record { state = storing queues (length ends + 1) None (ends ++ end ∷ []); answer = Gave completion; noted = Some (poll_note number max (length ends + 1) shown) })
       by true e =
           let more = ltb-true (length ends + 1) max e in
           let few = turns_few c in
-          (record { asked = h.asked; few = omega (arith, long, more, h.asked); given_are = omega (arith, long, given_long, h.given_are) }, omega (arith, long, more, few, left))
+          (record { asked = h.asked; few = omega (arith, long, more, h.asked); given_are = omega (arith, long, h.given_are) }, omega (arith, long, more, few, left))
       by false e =
-          let s = stores most (given ++ completion ∷ []) c rs queues (length ends + 1) None (ends ++ end ∷ []) (omega (arith, long, h.few)) in
+          let s = stores most (given + 1) c rs queues (length ends + 1) None (ends ++ end ∷ []) (omega (arith, long, h.few)) in
           (s.stands, omega (arith, s.few, long, left))
 
   -- no completion is left
@@ -161,7 +155,7 @@ module _ (most : ℕ) (given : List Completion) (seen : ℕ) (number : ℕ) (que
 
 -- A load of the completion queue's words
 
-module _ (place : PollPlace) (most : ℕ) (given : List Completion) (seen : ℕ) (rs : List Retirer) (max : ℕ) (ends : List End) (h : IsLoading most given max (length ends)) (e : BusEntry) where
+module _ (place : PollPlace) (most given seen : ℕ) (rs : List Retirer) (max : ℕ) (ends : List End) (h : IsLoading most given max (length ends)) (e : BusEntry) where
   abbrev polls : Consumer → PollRule
   polls c = record { host = c; seen = seen; retirers = rs; state = Polling max (record { items = ends }) }
 

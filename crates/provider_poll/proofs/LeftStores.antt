@@ -1,4 +1,4 @@
--- How many operations a poll still takes after one on the words of a send queue, and after the store of its consumer index.
+-- Each operation of a poll brings it nearer to its end.
 use Rattle.std.proofs.Common.{◌≡◌, ℕ, zero, suc, ◌+◌, refl, sym, ap, ◌∙◌, subst, arith, ◌≤◌, Bool, true, false, if◌then◌else◌, List, [], ◌∷◌, length, get_or, slice_get, slice_set, unwrap_or, is_some, Option, None, Some}
 use Rattle.std.proofs.lemmas.Bool.{false≢true}
 use Rattle.std.proofs.lemmas.List.{get_or-set_same}
@@ -19,11 +19,12 @@ use Rattle.provider_poll.specs.declared.state.PollState.{PollState}
 use Rattle.provider_poll.specs.declared.state.PollState.TheVariants.{Idle, Polling, LookingUp, Retiring, Acking}
 use Rattle.provider_poll.specs.declared.poll_step.PollStep.{PollStep}
 use Rattle.provider_poll.specs.Completion.{completion_of}
+use Rattle.provider_poll.specs.Left.{asked_turns, poll_left}
 use Rattle.provider_poll.specs.Rule.{PollPlace, PollRule, PollMark, OnHost, OnQueue, QueuePlace, MayGoOn, MayLookUp, MayRetireFirst, MayAcknowledge, queues_at, queues_of, found_before}
 use Rattle.provider_poll.specs.RuleStep.{poll_side_step, after_poll_side, retirer_step, retirers_with, asked_with}
 use Rattle.provider_poll.specs.SendQueue.{SendView, fresh_retirer}
 use Rattle.provider_poll.specs.PollStep.{after_lookup}
-use Rattle.operation_bounds.proofs.Polls.{IsHost, IsLoading, IsUnderWay, asked_turns, lookup_few, poll_left, Goes, stores, end_goes, look_goes}
+use Rattle.provider_poll.proofs.LeftLoads.{IsHost, IsHostIn, IsLoading, IsUnderWay, lookup_few, Goes, stores, end_goes, look_goes}
 
 -- the retirer of a queue's view
 view_side : (qs : List QueuePlace) (rs : List Retirer) (i : ℕ) (q : SendView) → slice_get (queues_at qs rs) i ≡ Some q → slice_get rs i ≡ Some q.side
@@ -34,12 +35,12 @@ view_side (p ∷ ps) [] (suc i) q there = absurd (false≢true (ap is_some there
 view_side (p ∷ ps) (r ∷ rs) zero q there = ap (λ o. Some (unwrap_or o q).side) there
 view_side (p ∷ ps) (r ∷ rs) (suc i) q there = view_side ps rs i q there
 
-module _ (place : PollPlace) (most : ℕ) (given : List Completion) (c : Consumer) (seen : ℕ) (rs : List Retirer) (e : BusEntry) where
+module _ (place : PollPlace) (most given : ℕ) (c : Consumer) (seen : ℕ) (rs : List Retirer) (e : BusEntry) where
   abbrev side : PollState → PollRule
   side state = record { host = c; seen = seen; retirers = rs; state = state }
 
   abbrev Result : PollState → PollMark → Type 0
-  Result state mark = IsHost (after_poll_side place (side state) mark e).host × Goes most given (poll_left c rs state) (after_poll_side place (side state) mark e) (poll_side_step place (side state) mark e).answer
+  Result state mark = (IsHost c → IsHost (after_poll_side place (side state) mark e).host) × Goes most given (poll_left c rs state) (after_poll_side place (side state) mark e) (poll_side_step place (side state) mark e).answer
 
   -- an operation on the words of a queue whose view is known
 
@@ -52,8 +53,8 @@ module _ (place : PollPlace) (most : ℕ) (given : List Completion) (c : Consume
   abbrev Served : PollState → ℕ → WqMark → Option SendView → Type 0
   Served state queue mark o = Goes most given (poll_left c rs state) (record { host = c; seen = seen; retirers = retirers_then queue mark o; state = (turned_then state queue mark o).state }) (turned_then state queue mark o).answer
 
-  by_view : (state : PollState) (queue : ℕ) (mark : WqMark) (q : SendView) → IsHost c → slice_get (queues_of place (side state)) queue ≡ Some q → Served state queue mark (Some q) → Result state (OnQueue queue mark)
-  by_view state queue mark q fine there h = (fine, subst (Served state queue mark) (sym there) h)
+  by_view : (state : PollState) (queue : ℕ) (mark : WqMark) (q : SendView) → slice_get (queues_of place (side state)) queue ≡ Some q → Served state queue mark (Some q) → Result state (OnQueue queue mark)
+  by_view state queue mark q there h = (λ fine. fine, subst (Served state queue mark) (sym there) h)
 
   -- Lookups
 
@@ -91,40 +92,40 @@ module _ (place : PollPlace) (most : ℕ) (given : List Completion) (c : Consume
         by false = finds (record { tail = q.side.tail; found = found_before q.side + 1; asked = None }) completion.counter (loaded e) (found_before q.side + 1)
     by_asked (Some a) is = subst (λ (o : Option Asked). Found_as (after_serve q.place q.side Count e) (count_says_for o e)) (sym is) (finds (after_serve q.place q.side Count e) a.counter a.id (end_after e))
 
-  lookup_goes : (max : ℕ) (ends : List End) (completion : Cqe) (queue index : ℕ) (mark : WqMark) → IsLoading most given max (length ends) → IsHost c → MayLookUp place (side (LookingUp max (record { items = ends }) completion queue)) completion queue index mark e
+  lookup_goes : (max : ℕ) (ends : List End) (completion : Cqe) (queue index : ℕ) (mark : WqMark) → IsLoading most given max (length ends) → MayLookUp place (side (LookingUp max (record { items = ends }) completion queue)) completion queue index mark e
       → Result (LookingUp max (record { items = ends }) completion queue) (OnQueue index mark)
-  lookup_goes max ends completion queue index mark h fine may =
+  lookup_goes max ends completion queue index mark h may =
       let state : PollState = LookingUp max (record { items = ends }) completion queue in
       let q = may.serves.served in
       subst (λ (i : ℕ). Result state (OnQueue i mark)) (sym may.queue_is)
       (subst (λ (m : WqMark). Result state (OnQueue queue m)) (sym may.mark_is)
-      (by_view state queue (lookup_mark completion.counter (found_before q.side) q.side.asked) q fine may.serves.found
+      (by_view state queue (lookup_mark completion.counter (found_before q.side) q.side.asked) q may.serves.found
       (by_asked max ends h completion queue q (view_side place.queues rs queue q may.serves.found) q.side.asked refl (queues_at place.queues (retirers_then queue (lookup_mark completion.counter (found_before q.side) q.side.asked) (Some q))))))
 
   -- Stores
 
-  retire_goes : (taken : ℕ) (empty : Option ℕ) (ends : List End) (index : ℕ) (mark : WqMark) → length ends ≤ most → IsHost c → MayRetireFirst place (side (Retiring taken empty (record { items = ends }))) ends index mark e
+  retire_goes : (taken : ℕ) (empty : Option ℕ) (ends : List End) (index : ℕ) (mark : WqMark) → length ends ≤ most → MayRetireFirst place (side (Retiring taken empty (record { items = ends }))) ends index mark e
       → Result (Retiring taken empty (record { items = ends })) (OnQueue index mark)
-  retire_goes taken empty [] index mark few fine may = absurd may
-  retire_goes taken empty (end ∷ ends) index mark few fine may =
+  retire_goes taken empty [] index mark few may = absurd may
+  retire_goes taken empty (end ∷ ends) index mark few may =
       let state : PollState = Retiring taken empty (record { items = end ∷ ends }) in
       let q = may.serves.served in
       let rs' : List Retirer = retirers_then end.queue mark (Some q) in
       let s = stores most given c rs' (queues_at place.queues rs') taken empty ends (omega (arith, few)) in
       subst (λ (i : ℕ). Result state (OnQueue i mark)) (sym may.queue_is)
-      (by_view state end.queue mark q fine may.serves.found (s.stands, omega (arith, s.few)))
+      (by_view state end.queue mark q may.serves.found (s.stands, omega (arith, s.few)))
 
   ack_goes : (taken : ℕ) (empty : Option ℕ) (mark : QueueMark) → MayAcknowledge place (side (Acking taken empty)) mark e → Result (Acking taken empty) (OnHost mark)
-  ack_goes taken empty mark may = subst (λ (m : QueueMark). Result (Acking taken empty) (OnHost m)) (sym may.index) (tt, (refl, tt))
+  ack_goes taken empty mark may = subst (λ (m : QueueMark). Result (Acking taken empty) (OnHost m)) (sym may.index) (λ fine. tt, (refl, tt))
 
   -- each operation of a poll brings it nearer to its end
-  pub poll_goes : (state : PollState) (mark : PollMark) → IsHost c → IsUnderWay most given state → MayGoOn state place (side state) mark e → Result state mark
+  pub poll_goes : (state : PollState) (mark : PollMark) → IsHostIn state c → IsUnderWay most given state → MayGoOn state place (side state) mark e → Result state mark
   poll_goes Idle mark fine h may = absurd h
-  poll_goes (Polling max ends) (OnHost mark) fine h may = look_goes place most given seen rs max ends.items h e c mark fine may
+  poll_goes (Polling max ends) (OnHost mark) fine h may = let looked = look_goes place most given seen rs max ends.items h e c mark fine may in (λ x. looked.0, looked.1)
   poll_goes (Polling max ends) (OnQueue index mark) fine h may = absurd may
   poll_goes (LookingUp max ends completion queue) (OnHost mark) fine h may = absurd may
-  poll_goes (LookingUp max ends completion queue) (OnQueue index mark) fine h may = lookup_goes max ends.items completion queue index mark h fine may
+  poll_goes (LookingUp max ends completion queue) (OnQueue index mark) fine h may = lookup_goes max ends.items completion queue index mark h may
   poll_goes (Retiring taken empty left) (OnHost mark) fine h may = absurd may
-  poll_goes (Retiring taken empty left) (OnQueue index mark) fine h may = retire_goes taken empty left.items index mark h fine may
+  poll_goes (Retiring taken empty left) (OnQueue index mark) fine h may = retire_goes taken empty left.items index mark h may
   poll_goes (Acking taken empty) (OnHost mark) fine h may = ack_goes taken empty mark may
   poll_goes (Acking taken empty) (OnQueue index mark) fine h may = absurd may
