@@ -14,7 +14,6 @@ use Rattle.verbs_laws.proofs.Families.{among}
 use Rattle.device_engine.specs.State.{send_cq}
 use Rattle.provider_poll.specs.Fresh.{completes_to, senders}
 use Rattle.provider_poll.proofs.Ranges.{from_least, below_most, passes, is_there}
-use Rattle.actor_rules.specs.Thread.{completes_into}
 use Rattle.actor_rules.specs.Polling.{place_in}
 use Rattle.actor_rules.specs.Completions.{HasPlace}
 use Rattle.object_places.specs.Places.{no_qp, qp_line, send_of}

@@ -34,7 +34,7 @@ fn outcome_of(alloc: Global, plan: &[u8]) -> Result<Outcome, Fail> {
 
 /// The actor, the address and the operation with this place in the trace, counted from 0.
 fn made(outcome: &Outcome, place: usize) -> Option<(u8, u32, BusOp)> {
-    let entry = outcome.trace.as_slice().get(place)?;
+    let entry = outcome.trace.as_slice().get(place)?.entry();
     Some((entry.actor, entry.addr, entry.op))
 }
 

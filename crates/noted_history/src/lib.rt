@@ -5,12 +5,10 @@
 mod completions;
 mod entries;
 mod log;
-mod marks;
 mod posting;
 mod teller;
 
 pub use entries::history_of;
-pub use log::{Noted, TurnRecord, TurnResult};
-pub use marks::marks_of;
+pub use log::Noted;
 pub use posting::Posting;
 pub use teller::Teller;

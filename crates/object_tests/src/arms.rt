@@ -28,8 +28,8 @@ fn largest_fields_fit_their_words(rt: HostRuntime) -> Result<(), Fail> {
     assert_eq!(rt; armer.turn(&mut bus), Step::Done(armed));
     let trace = bus.trace();
     assert_eq!(rt; trace.len(), 3);
-    assert_eq!(rt; trace[1].op, BusOp::Store(0x31ff_ffff));
-    assert_eq!(rt; trace[2].op, BusOp::Store(0x31ff_ffff_0000_0007));
+    assert_eq!(rt; trace[1].entry().op, BusOp::Store(0x31ff_ffff));
+    assert_eq!(rt; trace[2].entry().op, BusOp::Store(0x31ff_ffff_0000_0007));
     Ok(())
 }
 

@@ -149,14 +149,20 @@ fn command_is_asked_and_answered(rt: HostRuntime) -> Result<(), Fail> {
 
     let trace = bus.trace();
     assert_eq!(rt; trace.len(), 25);
-    assert_eq!(rt; trace[0].op, BusOp::Store(0x0700_0000_0000_0010));
-    assert_eq!(rt; trace[2].op, BusOp::Store(0x0107_0000_0000_0001));
-    assert_eq!(rt; trace[7].op, BusOp::Store(0x0010_2ad4_0001));
-    assert_eq!(rt; (trace[8].addr, trace[8].op), (4, BusOp::SetBits(2)));
-    assert_eq!(rt; (trace[9].addr, trace[9].op), (4, BusOp::Swap(0)));
-    assert_eq!(rt; trace[19].op, BusOp::Store(8));
+    assert_eq!(rt; trace[0].entry().op, BusOp::Store(0x0700_0000_0000_0010));
+    assert_eq!(rt; trace[2].entry().op, BusOp::Store(0x0107_0000_0000_0001));
+    assert_eq!(rt; trace[7].entry().op, BusOp::Store(0x0010_2ad4_0001));
     assert_eq!(rt;
-        (trace[21].addr, trace[21].op),
+        (trace[8].entry().addr, trace[8].entry().op),
+        (4, BusOp::SetBits(2))
+    );
+    assert_eq!(rt;
+        (trace[9].entry().addr, trace[9].entry().op),
+        (4, BusOp::Swap(0))
+    );
+    assert_eq!(rt; trace[19].entry().op, BusOp::Store(8));
+    assert_eq!(rt;
+        (trace[21].entry().addr, trace[21].entry().op),
         (LAST_WORD, BusOp::Store(0x0010_2add_0000))
     );
     Ok(())
@@ -183,7 +189,7 @@ fn damaged_signature_is_told(rt: HostRuntime) -> Result<(), Fail> {
 
     let trace = bus.trace();
     assert_eq!(rt; trace.len(), 22);
-    assert_eq!(rt; trace[7].op, BusOp::Store(0x000c_2aca_0001));
-    assert_eq!(rt; trace[20].op, BusOp::Store(0x000c_2ac9_0002));
+    assert_eq!(rt; trace[7].entry().op, BusOp::Store(0x000c_2aca_0001));
+    assert_eq!(rt; trace[20].entry().op, BusOp::Store(0x000c_2ac9_0002));
     Ok(())
 }

@@ -44,12 +44,13 @@ fn event_is_written(rt: HostRuntime) -> Result<(), Fail> {
     assert!(rt; device.is_idle());
     let trace = bus.trace();
     assert_eq!(rt; trace.len(), 8);
+    let (first, last) = (trace[0].entry(), trace[7].entry());
     assert_eq!(rt;
-        (trace[0].addr, trace[0].op),
+        (first.addr, first.op),
         (17408, BusOp::Store(0x0004_0000_0000_0000))
     );
-    assert_eq!(rt; trace[4].op, BusOp::Store(0x0000_0007_0000_0000));
-    assert_eq!(rt; (trace[7].addr, trace[7].op), (17415, BusOp::Store(0)));
+    assert_eq!(rt; trace[4].entry().op, BusOp::Store(0x0000_0007_0000_0000));
+    assert_eq!(rt; (last.addr, last.op), (17415, BusOp::Store(0)));
     Ok(())
 }
 

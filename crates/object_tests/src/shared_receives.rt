@@ -112,9 +112,9 @@ fn receive_goes_round(rt: HostRuntime) -> Result<(), Fail> {
     assert_eq!(rt; freer.turn(&mut bus), Step::Done(SrqFreed::Freed));
     let trace = bus.trace();
     assert_eq!(rt; trace.len(), 14);
-    assert_eq!(rt; trace[5].op, BusOp::Store(0));
-    assert_eq!(rt; trace[12].addr, 4);
-    assert_eq!(rt; trace[12].op, BusOp::Store(0));
-    assert_eq!(rt; trace[13].addr, 11);
+    assert_eq!(rt; trace[5].entry().op, BusOp::Store(0));
+    assert_eq!(rt; trace[12].entry().addr, 4);
+    assert_eq!(rt; trace[12].entry().op, BusOp::Store(0));
+    assert_eq!(rt; trace[13].entry().addr, 11);
     Ok(())
 }

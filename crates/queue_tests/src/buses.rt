@@ -28,6 +28,10 @@ fn each_operation_leaves_its_entry(rt: HostRuntime) -> Result<(), Fail> {
         entry(BusOp::SetBits(0xf1), Some(0x0f)),
         entry(BusOp::Swap(7), Some(0xff)),
     ];
-    assert_eq!(rt; bus.trace(), made.as_slice());
+    let trace = bus.trace();
+    assert_eq!(rt; trace.len(), made.len());
+    for (kept, entry) in trace.iter().zip(&made) {
+        assert_eq!(rt; kept.entry(), *entry);
+    }
     Ok(())
 }

@@ -69,8 +69,8 @@ fn second_round_flips_the_owner_bit(rt: HostRuntime) -> Result<(), Fail> {
     assert_eq!(rt; device.seen().a, 3);
     let trace = bus.trace();
     assert_eq!(rt; trace.len(), 9);
-    assert_eq!(rt; trace[8].addr, words::FIRST_OWNER_WORD);
-    assert_eq!(rt; trace[8].op, BusOp::Store(SECOND_OWNED));
+    assert_eq!(rt; trace[8].entry().addr, words::FIRST_OWNER_WORD);
+    assert_eq!(rt; trace[8].entry().op, BusOp::Store(SECOND_OWNED));
     Ok(())
 }
 

@@ -61,11 +61,11 @@ fn post_goes_across_the_end(rt: HostRuntime) -> Result<(), Fail> {
     assert_eq!(rt; poster.turn(&mut bus), Step::Done(Posted::Rung));
     let trace = bus.trace();
     assert_eq!(rt; trace.len(), 9);
-    assert_eq!(rt; trace[1].addr, RING + 2 * LAST);
-    assert_eq!(rt; trace[3].addr, RING);
-    assert_eq!(rt; trace[5].addr, IDS + LAST);
-    assert_eq!(rt; trace[7].op, BusOp::Store(1));
-    assert_eq!(rt; trace[8].op, BusOp::Store(5));
+    assert_eq!(rt; trace[1].entry().addr, RING + 2 * LAST);
+    assert_eq!(rt; trace[3].entry().addr, RING);
+    assert_eq!(rt; trace[5].entry().addr, IDS + LAST);
+    assert_eq!(rt; trace[7].entry().op, BusOp::Store(1));
+    assert_eq!(rt; trace[8].entry().op, BusOp::Store(5));
     Ok(())
 }
 

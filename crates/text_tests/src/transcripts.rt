@@ -4,7 +4,7 @@ ghost use Rattle.sample_objects.specs.Pair.{lines_of, pair_of};
 ghost use Rattle.transcript_text.specs.Numbers.{IsCompletion, IsEntry};
 ghost use Rattle.transcript_text.specs.Trace.{IsOperation};
 
-use bus_core::{BusEntry, BusOp};
+use bus_core::{BusEntry, BusOp, TraceEntry};
 use sample_objects::{RECV, SEND, nop_completion, one_pair};
 use std::alloc::{AllocError, Global};
 use std::test::Fail;
@@ -214,7 +214,8 @@ end 2
 #[test]
 fn old_words_follow_new_ones(rt: HostRuntime) -> Result<(), Fail> {
     let declared = one_pair(rt.alloc())?;
-    let text = print_trace(rt.alloc(), &declared, &[OR, SWAP], &[false, true])?;
+    let trace = [TraceEntry::of(OR), TraceEntry::of(SWAP)];
+    let text = print_trace(rt.alloc(), &declared, &trace, &[false, true])?;
     assert_eq!(rt; text.as_slice(), OPERATIONS_OF_A_BUS);
     Ok(())
 }

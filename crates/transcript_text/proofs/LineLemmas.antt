@@ -4,7 +4,7 @@ use Rattle.std.specs.List.{join_with_byte}
 use Rattle.scenario_text.specs.Requests.{line}
 use Rattle.transcript_text.specs.Fields.{spaced}
 
-joined_fields : (x : List ℕ) (xs : List (List ℕ)) → join_with_byte 32 (x ∷ xs) ≡ x ++ spaced xs
+pub joined_fields : (x : List ℕ) (xs : List (List ℕ)) → join_with_byte 32 (x ∷ xs) ≡ x ++ spaced xs
 joined_fields x [] = sym (append-nil x)
 joined_fields x (y ∷ ys) = ap (λ t. x ++ 32 ∷ t) (joined_fields y ys)
 

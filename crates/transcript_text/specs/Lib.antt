@@ -3,3 +3,5 @@ pub mod Numbers
 pub mod Commands
 pub mod History
 pub mod Trace
+pub mod LineInside
+pub mod ActorNames

@@ -1,6 +1,7 @@
 //! Transcripts: the texts of a history and of a trace, and the writers that they are made with.
 #![tactic(auto)]
 
+mod actor_names;
 mod byte_row;
 mod command;
 mod command_row;
@@ -10,6 +11,7 @@ mod event_row;
 mod head;
 mod history;
 mod key;
+mod line;
 mod names;
 mod queue_row;
 mod request;

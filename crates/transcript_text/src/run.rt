@@ -7,7 +7,7 @@ ghost use Rattle.transcript_text.specs.Trace.{IsOperation, trace_text};
 use crate::history::put_history;
 use crate::trace::{put_trace, room};
 use crate::writer::TextWriter;
-use bus_core::BusEntry;
+use bus_core::TraceEntry;
 use std::alloc::Global;
 use verbs_types::{Declared, Entry, NoMemory};
 
@@ -20,7 +20,7 @@ pub fn print_run(
     alloc: Global,
     declared: &Declared,
     history: &[Entry],
-    trace: &[BusEntry],
+    trace: &[TraceEntry],
     marks: &[bool],
 ) -> Result<Vec<u8>, NoMemory>
     requires entries { All (IsEntry declared.now) history.now }
@@ -29,9 +29,9 @@ pub fn print_run(
     ensures { IfOk result (λ text. text.items ≡ history_text declared.now history.now ++ trace_text declared.now trace.now marks.now) }
 {
     let lines = declared.lines();
-    let room = room(lines, trace).saturating_add(history.len().saturating_mul(ENTRY));
+    let room = room(lines, trace.len()).saturating_add(history.len().saturating_mul(ENTRY));
     let mut out = TextWriter::with_capacity(alloc, room)?;
     put_history(&mut out, declared, history)?;
-    put_trace(&mut out, lines, trace, marks)?;
+    put_trace(alloc, &mut out, lines, trace, marks)?;
     Ok(out.into_vec())
 }

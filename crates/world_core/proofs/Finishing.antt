@@ -1,11 +1,10 @@
 -- What the turns of a world leave.
-use Rattle.std.proofs.Common.{◌≡◌, ◌∙◌, refl, sym, ap, subst, ℕ, suc, List, [], map, slice_index}
+use Rattle.std.proofs.Common.{◌≡◌, ◌∙◌, sym, subst, ℕ, List, slice_index}
 use Rattle.bus_core.specs.declared.operation.BusEntry.{BusEntry}
 use Rattle.bus_core.specs.Mark.{Marked, entries}
 use Rattle.bus_core.specs.Trace.{IsConsistent}
 use Rattle.verbs_types.specs.declared.call.Call.{Call}
 use Rattle.verbs_types.specs.declared.declaration.Lines.{Lines}
-use Rattle.verbs_types.specs.declared.entry.Entry.{Entry}
 use Rattle.verbs_rules.specs.Within.{Bounds}
 use Rattle.verbs_rules.specs.Start.{start}
 use Rattle.verbs_rules.specs.State.{Verbs}
@@ -23,11 +22,10 @@ use Rattle.marked_stores.specs.Stores.{SayEntries}
 use Rattle.scenario_text.specs.declared.scenario.ScenarioParts.{ScenarioParts}
 use Rattle.scenario_text.specs.Running.{CanRun}
 use Rattle.ready_scenarios.specs.Ready.{IsReady, bounds_of}
-use Rattle.noted_history.specs.Marks.{marks_in}
 use Rattle.noted_history.specs.OfNotes.{HasNotes}
 use Rattle.world_core.specs.declared.outcome.Outcome.{Outcome}
-use Rattle.world_core.specs.Holding.{actor_of, Holds}
-use Rattle.world_core.specs.Outcome.{IsOutcome, marks_of}
+use Rattle.world_core.specs.Holding.{Holds}
+use Rattle.world_core.specs.Outcome.{IsOutcome}
 use Rattle.world_core.specs.Run.{RunView}
 
 -- a law of every run of programs that are ready
@@ -68,7 +66,7 @@ module _ (s : ScenarioParts) (v : RunView) (h : Holds s v) (consistent : IsConsi
         legal : IsHistory s.lines s.programs (entries_of tale)
         legal = subst (IsHistory s.lines s.programs) (sym entries_are) law.history
 
-    pub outcome_is : (o : Outcome) → IsBoundedRun s.lines s.programs h.trace → SayEntries s.lines s.programs h.trace → o.trace.items ≡ v.bus.trace → o.marks.items ≡ marks_in v.turns → o.history ≡ entries_of tale → IsOutcome s (map actor_of v.turns) o
+    pub outcome_is : (o : Outcome) → IsBoundedRun s.lines s.programs h.trace → SayEntries s.lines s.programs h.trace → o.trace.items ≡ v.bus.trace → o.marks.items ≡ v.marks → o.history ≡ entries_of tale → IsOutcome s v.turns o
     outcome_is o bounded says trace marks told_is = record {
       trace = h.trace;
       operations = h.bus.operations ∙ sym trace;

@@ -1,18 +1,12 @@
 -- What a turn asks of a run.
-use Rattle.std.proofs.Common.{◌≡◌, ◌∙◌, sym, ap, true, List, subst, arith, ℕ, suc, ◌+◌, ◌*◌, ◌<◌, ◌≤◌, ◌^◌, length, Some, slice_get}
-use Rattle.verbs_types.specs.declared.completion.Queue.{Queue}
+use Rattle.std.proofs.Common.{◌≡◌, ◌∙◌, sym, List, subst, arith, ℕ, suc, ◌<◌, ◌≤◌, ◌^◌, length, Some, slice_get}
 use Rattle.verbs_types.specs.declared.declaration.Lines.{Lines}
 use Rattle.actor_map.specs.Sizes.{words_of}
-use Rattle.owner_ring.specs.Consumer.{Consumer, Waiting, Reading}
-use Rattle.device_engine.specs.Counts.{CountsBelow}
 use Rattle.device_engine.specs.View.{rule_of}
 use Rattle.scenario_text.specs.declared.scenario.ScenarioParts.{ScenarioParts}
 use Rattle.scenario_text.specs.Limits.{turn_count}
 use Rattle.scenario_text.specs.Running.{CanRun}
-use Rattle.thread_actor.specs.Small.{IsBelow}
 use Rattle.thread_actor.specs.View.{ThreadView, thread_of}
-use Rattle.noted_history.specs.declared.log.TurnResult.TheVariants.{Nothing}
-use Rattle.noted_history.specs.declared.log.TurnRecord.{TurnRecord}
 use Rattle.world_core.specs.Holding.{low_after, Holds}
 use Rattle.world_core.specs.Run.{RunView, AdapterCan, ThreadCan, CanOperate, CanTurn, IsGoing}
 use Rattle.world_core.proofs.Turning.{weaken_adapter, weaken_thread}

@@ -1,26 +1,19 @@
 -- A run before its first turn, and what a turn asks of it.
-use Rattle.std.proofs.Common.{◌≡◌, ◌∙◌, refl, sym, ap, subst, arith, ℕ, zero, suc, ◌+◌, ◌*◌, ◌<◌, ◌≤◌, ◌^◌, nat_le, nat_lt, not, Bool, true, false, ◌&&◌, List, [], length, map, None, Some, slice_get, slice_index_or}
+use Rattle.std.proofs.Common.{◌≡◌, ◌∙◌, refl, sym, ap, subst, arith, ℕ, suc, ◌+◌, ◌<◌, ◌^◌, nat_le, nat_lt, not, Bool, true, ◌&&◌, List, [], length, None, Some, slice_get, slice_index_or}
 use Rattle.std.proofs.lemmas.Option.{slice_get_within}
-use Rattle.bus_core.specs.Mark.{Marked}
 use Rattle.verbs_types.specs.declared.call.Call.{Call}
 use Rattle.verbs_types.specs.declared.declaration.Lines.{Lines}
 use Rattle.counted_ring.specs.Law.{fresh_poster}
-use Rattle.object_places.specs.Objects.{Mark}
 use Rattle.device_engine.specs.Counts.{CountsBelow, CountsGrow}
-use Rattle.device_engine.specs.State.{AdapterRule}
 use Rattle.provider_poll.specs.Fresh.{fresh_rule}
-use Rattle.actor_rules.specs.Thread.{Thread, queue_start, fresh_thread}
+use Rattle.actor_rules.specs.Thread.{queue_start, fresh_thread}
 use Rattle.actor_rules.specs.Actors.{Actors, fresh_actors}
 use Rattle.scenario_text.specs.declared.scenario.ScenarioParts.{ScenarioParts}
 use Rattle.scenario_text.specs.Running.{CanRun}
 use Rattle.thread_actor.specs.Fresh as thread
-use Rattle.thread_actor.specs.Small.{IsBelow}
-use Rattle.thread_actor.specs.View.{ThreadView, thread_of}
-use Rattle.noted_history.specs.declared.log.TurnRecord.{TurnRecord}
-use Rattle.noted_history.specs.Marks.{marks_in}
-use Rattle.world_core.specs.Holding.{low_after, actors_after, actor_of, IsAdapter, IsThreadOf, MadeTurns, Stand, Holds}
-use Rattle.world_core.specs.Outcome.{AreTurns}
-use Rattle.world_core.specs.Run.{RunView, CanTurn}
+use Rattle.thread_actor.specs.View.{ThreadView}
+use Rattle.world_core.specs.Holding.{IsAdapter, IsThreadOf, MadeTurns, Holds}
+use Rattle.world_core.specs.Run.{RunView}
 use Rattle.world_core.specs.Start.{IsFirst}
 
 fresh_is : (d : Lines) (programs : List (List Call)) (t : ℕ) → t < length programs → thread.fresh_thread d (slice_index_or programs t []) ≡ fresh_thread d programs (suc t)
@@ -40,7 +33,7 @@ module _ (s : ScenarioParts) (v : RunView) (can : CanRun s) (grow : CountsGrow) 
   abbrev first : Actors
   first = fresh_actors s.lines s.programs
 
-  none_made : MadeTurns s [] [] []
+  none_made : MadeTurns s [] [] [] []
   none_made = record { keeps = tt; turned = tt; notes = refl; marks = refl }
 
   first_thread : (t : ℕ) (view : ThreadView) → slice_get v.threads t ≡ Some view → IsThreadOf s.lines first 0 (suc t) view
@@ -63,10 +56,10 @@ module _ (s : ScenarioParts) (v : RunView) (can : CanRun s) (grow : CountsGrow) 
 
   pub first_holds : Holds s v
   first_holds =
-      let none : 0 ≡ length v.turns = ap (λ (ts : List TurnRecord). length ts) (sym f.turns) in
+      let none : 0 ≡ length v.turns = ap (λ (ts : List ℕ). length ts) (sym f.turns) in
       record {
         trace = [];
-        made = coe 0 1 (i. MadeTurns s (sym f.turns i) (sym f.notes i) []) none_made;
+        made = coe 0 1 (i. MadeTurns s (sym f.turns i) (sym f.marks i) (sym f.notes i) []) none_made;
         stand = record {
           adapter = subst (λ n. IsAdapter s.lines first n v.adapter) none first_adapter;
           thread_count = f.threads.count;

@@ -1,21 +1,18 @@
 -- What holds of a run, after one more turn.
-use Rattle.std.proofs.Common.{◌≡◌, ◌≢◌, ◌∙◌, refl, sym, ap, subst, arith, inl, inr, ℕ, zero, suc, ◌+◌, ◌-◌, ◌*◌, ◌<◌, ◌≤◌, ◌^◌, ◌==◌, eqb, ◌++◌, true, false, List, [], ◌∷◌, length, map, length-append, Option, None, Some, option_map, slice_get, slice_set, length-set}
-use Rattle.std.specs.List.{fold}
+use Rattle.std.proofs.Common.{◌≡◌, ◌≢◌, ◌∙◌, refl, sym, ap, subst, arith, inl, inr, ℕ, suc, ◌+◌, ◌-◌, ◌≤◌, ◌++◌, List, [], ◌∷◌, length, length-append, Option, None, Some, option_map, slice_get, length-set}
 use Rattle.std.proofs.lemmas.Bool.Decides.{eqb_tells}
 use Rattle.std.proofs.lemmas.List.{map-append}
 use Rattle.bus_core.specs.declared.operation.BusEntry.{BusEntry}
 use Rattle.bus_core.specs.declared.turn.Note.{Note}
-use Rattle.bus_core.specs.Mark.{Marked, entries}
+use Rattle.bus_core.specs.Mark.{Marked}
 use Rattle.bus_core.specs.Plain.{Plain}
 use Rattle.bus_core.proofs.Following.{fold-push}
-use Rattle.verbs_types.specs.declared.call.Call.{Call}
 use Rattle.verbs_types.specs.declared.completion.Queue.{Queue}
 use Rattle.verbs_types.specs.declared.completion.Queue.TheVariants.{Send}
 use Rattle.verbs_types.specs.declared.declaration.Lines.{Lines}
-use Rattle.verbs_types.specs.declared.entry.Entry.{Entry}
 use Rattle.verbs_types.specs.declared.entry.What.{What}
 use Rattle.verbs_types.specs.declared.request.Item.{Item}
-use Rattle.actor_map.specs.Notes.{Told, note_of, with_seen}
+use Rattle.actor_map.specs.Notes.{Told, with_seen}
 use Rattle.object_places.specs.Objects.{Mark}
 use Rattle.owner_ring.specs.Consumer.{Consumer, Waiting, Reading}
 use Rattle.device_engine.specs.Counts.{CountsBelow, CountsGrow}
@@ -24,22 +21,19 @@ use Rattle.device_engine.specs.Rule.{adapter_mark, MayAdapt, after_adapt, adapte
 use Rattle.device_engine.specs.State.{AdapterRule}
 use Rattle.device_engine.specs.View.{ScanView, rule_of}
 use Rattle.provider_poll.specs.Completion.{completion_of}
-use Rattle.actor_rules.specs.Actors.{Actors, MayAdapter, after, after_by, says, what_of, by, id_in, adapter_entry, sees_of, tells}
-use Rattle.actor_rules.specs.Roles.{May, MayAny, Knows, part}
+use Rattle.actor_rules.specs.Actors.{Actors, after, after_by, what_of, by, id_in, adapter_entry, sees_of, tells}
+use Rattle.actor_rules.specs.Roles.{May, MayAny, part}
 use Rattle.actor_rules.specs.Calls.{MayThread, after_thread, thread_says, thread_sees}
 use Rattle.actor_rules.specs.Thread.{Thread}
 use Rattle.actor_rules.proofs.Threading.{put_here, put_there}
 use Rattle.scenario_text.specs.declared.scenario.ScenarioParts.{ScenarioParts}
-use Rattle.thread_actor.specs.Small.{IsPosterBelow, IsHostBelow, IsBelow}
+use Rattle.thread_actor.specs.Small.{IsHostBelow, IsBelow}
 use Rattle.thread_actor.specs.Turn.{marked, IsNoteOf}
-use Rattle.thread_actor.specs.View.{ThreadView, thread_of, calls_left}
+use Rattle.thread_actor.specs.View.{ThreadView, thread_of}
 use Rattle.thread_actor.proofs.Places.{set_here, set_there}
-use Rattle.noted_history.specs.declared.log.TurnResult.{TurnResult as MadeBy}
-use Rattle.noted_history.specs.declared.log.TurnResult.TheVariants.{Nothing}
-use Rattle.noted_history.specs.declared.log.TurnRecord.{TurnRecord}
-use Rattle.world_core.specs.Holding.{actors_after, low_after, IsAdapter, IsThreadOf, MadeTurns, Stand, HasBus, Holds}
-use Rattle.world_core.specs.Outcome.{Makes, Passes, has_ended}
-use Rattle.world_core.specs.Log.{made_of, with_turn}
+use Rattle.world_core.specs.Holding.{actors_after, low_after, IsAdapter, IsThreadOf, MadeTurns, HasBus, Holds}
+use Rattle.world_core.specs.Outcome.{Makes}
+use Rattle.world_core.specs.Log.{with_turn}
 use Rattle.world_core.specs.Run.{RunView, AdapterMoves, ThreadMoves, ThreadRests, with_operation}
 use Rattle.world_core.proofs.Moving.{Fits, made_passes, made_moves}
 
@@ -62,14 +56,14 @@ weaken_adapter m n s le low = record {
   completions = λ (cq : ℕ). omega (arith, le, low.completions cq);
 }
 
-one_more : (turns : List TurnRecord) (actor : ℕ) (made : MadeBy) → length (with_turn turns actor made) ≡ length turns + 1
-one_more turns actor made = length-append turns (record { actor = actor; made = made } ∷ [])
+one_more : (turns : List ℕ) (actor : ℕ) → length (with_turn turns actor) ≡ length turns + 1
+one_more turns actor = length-append turns (actor ∷ [])
 
-low_next : (turns : List TurnRecord) (actor : ℕ) (made : MadeBy) → low_after (length turns) + 64 ≡ low_after (length (with_turn turns actor made))
-low_next turns actor made = omega (arith, one_more turns actor made)
+low_next : (turns : List ℕ) (actor : ℕ) → low_after (length turns) + 64 ≡ low_after (length (with_turn turns actor))
+low_next turns actor = omega (arith, one_more turns actor)
 
-low_rises : (turns : List TurnRecord) (actor : ℕ) (made : MadeBy) → low_after (length turns) ≤ low_after (length (with_turn turns actor made))
-low_rises turns actor made = omega (arith, one_more turns actor made)
+low_rises : (turns : List ℕ) (actor : ℕ) → low_after (length turns) ≤ low_after (length (with_turn turns actor))
+low_rises turns actor = omega (arith, one_more turns actor)
 
 -- What is as before
 
@@ -98,11 +92,11 @@ told_by d w actor x = option_map (with_seen (sees_of d w actor x)) (option_map (
 
 -- The bus
 
-module _ (s : ScenarioParts) (old new : RunView) (trace : List (Marked Mark)) (actor : ℕ) (x : Marked Mark) (made : MadeBy) where
-  bus_moves : HasBus s old trace → new.bus ≡ with_operation old.bus actor x.entry → new.turns ≡ with_turn old.turns actor made → new.capacity ≡ old.capacity → HasBus s new (trace ++ x ∷ [])
+module _ (s : ScenarioParts) (old new : RunView) (trace : List (Marked Mark)) (actor : ℕ) (x : Marked Mark) where
+  bus_moves : HasBus s old trace → new.bus ≡ with_operation old.bus actor x.entry → new.turns ≡ with_turn old.turns actor → new.capacity ≡ old.capacity → HasBus s new (trace ++ x ∷ [])
   bus_moves h bus turns capacity =
       let room : new.bus.room ≡ old.bus.room - 1 = ap (λ (b : Plain). b.room) bus in
-      let long : length new.turns ≡ length old.turns + 1 = ap (λ (ts : List TurnRecord). length ts) turns ∙ one_more old.turns actor made in
+      let long : length new.turns ≡ length old.turns + 1 = ap (λ (ts : List ℕ). length ts) turns ∙ one_more old.turns actor in
       record {
         start = ap (λ (b : Plain). b.start) bus ∙ h.start;
         words = ap (λ (b : Plain). length b.start) bus ∙ h.words;
@@ -140,11 +134,11 @@ module _ (s : ScenarioParts) (old new : RunView) (h : Holds s old) (m : AdapterM
   now = actors_more s h.trace x 0 m.by
 
   rises : low_after (length old.turns) ≤ low_after (length new.turns)
-  rises = subst (λ (ts : List TurnRecord). low_after (length old.turns) ≤ low_after (length ts)) (sym m.turns) (low_rises old.turns 0 (made_of m.note))
+  rises = subst (λ (ts : List ℕ). low_after (length old.turns) ≤ low_after (length ts)) (sym m.turns) (low_rises old.turns 0)
 
   low : CountsBelow (low_after (length new.turns)) (after_adapt s.lines w.adapter m.entry)
   low =
-      let up : low_after (length old.turns) + 4 ≤ low_after (length new.turns) = omega (arith, ap (λ (ts : List TurnRecord). length ts) m.turns, one_more old.turns 0 (made_of m.note)) in
+      let up : low_after (length old.turns) + 4 ≤ low_after (length new.turns) = omega (arith, ap (λ (ts : List ℕ). length ts) m.turns, one_more old.turns 0) in
       weaken_adapter (low_after (length old.turns) + 4) (low_after (length new.turns)) (after_adapt s.lines w.adapter m.entry) up
       (grow.next s.lines w.adapter m.entry (low_after (length old.turns)) (subst (CountsBelow (low_after (length old.turns))) h.stand.adapter.rule h.stand.adapter.low))
 
@@ -163,13 +157,13 @@ module _ (s : ScenarioParts) (old new : RunView) (h : Holds s old) (m : AdapterM
   pub adapter_holds : Holds s new
   adapter_holds = record {
     trace = h.trace ++ x ∷ [];
-    made = coe 1 0 (i. MadeTurns s (m.turns i) (m.notes i) (h.trace ++ x ∷ [])) (made_moves s old.turns old.notes h.trace h.made 0 x m.note may (record { going = refl; by = m.by }) fits);
+    made = coe 1 0 (i. MadeTurns s (m.turns i) (m.marks i) (m.notes i) (h.trace ++ x ∷ [])) (made_moves s old.turns old.marks old.notes h.trace h.made 0 x m.note may (record { going = refl; by = m.by }) fits);
     stand = record {
       adapter = subst (λ (v : Actors). IsAdapter s.lines v (length new.turns) new.adapter) (sym now) moved;
       thread_count = ap (λ (ts : List ThreadView). length ts) m.threads ∙ h.stand.thread_count;
       threads = λ (t : ℕ) (thread : ThreadView) there. subst (λ (v : Actors). IsThreadOf s.lines v (length new.turns) (suc t) thread) (sym now) (others t thread there);
     };
-    bus = bus_moves s old new h.trace 0 x (made_of m.note) h.bus m.bus m.turns m.capacity;
+    bus = bus_moves s old new h.trace 0 x h.bus m.bus m.turns m.capacity;
   }
 
 -- A thread that goes on
@@ -208,7 +202,7 @@ module _ (s : ScenarioParts) (old new : RunView) (t : ℕ) (h : Holds s old) (m 
   now_all = actors_more s h.trace y (suc t) m.by
 
   up : low_after (length old.turns) + 64 ≡ low_after (length new.turns)
-  up = low_next old.turns (suc t) (made_of m.note) ∙ ap (λ (ts : List TurnRecord). low_after (length ts)) (sym m.turns)
+  up = low_next old.turns (suc t) ∙ ap (λ (ts : List ℕ). low_after (length ts)) (sym m.turns)
 
   higher : low_after (length old.turns) ≤ low_after (length new.turns)
   higher = omega (arith, up)
@@ -240,7 +234,7 @@ module _ (s : ScenarioParts) (old new : RunView) (t : ℕ) (h : Holds s old) (m 
   pub thread_holds : Holds s new
   thread_holds = record {
     trace = h.trace ++ y ∷ [];
-    made = coe 1 0 (i. MadeTurns s (m.turns i) (m.notes i) (h.trace ++ y ∷ [])) (made_moves s old.turns old.notes h.trace h.made (suc t) y m.note may_thread makes fits_thread);
+    made = coe 1 0 (i. MadeTurns s (m.turns i) (m.marks i) (m.notes i) (h.trace ++ y ∷ [])) (made_moves s old.turns old.marks old.notes h.trace h.made (suc t) y m.note may_thread makes fits_thread);
     stand = record {
       adapter = subst (λ (v : Actors). IsAdapter s.lines v (length new.turns) new.adapter) (sym now_all)
           (subst (IsAdapter s.lines (after_by s.lines before_all (suc t) y) (length new.turns)) (sym m.adapter)
@@ -248,29 +242,29 @@ module _ (s : ScenarioParts) (old new : RunView) (t : ℕ) (h : Holds s old) (m 
       thread_count = ap (λ (ts : List ThreadView). length ts) m.threads ∙ length-set old.threads t m.after ∙ h.stand.thread_count;
       threads = λ (k : ℕ) (thread : ThreadView) at_k. subst (λ (v : Actors). IsThreadOf s.lines v (length new.turns) (suc k) thread) (sym now_all) (each k thread at_k);
     };
-    bus = bus_moves s old new h.trace (suc t) y (made_of m.note) h.bus m.bus m.turns m.capacity;
+    bus = bus_moves s old new h.trace (suc t) y h.bus m.bus m.turns m.capacity;
   }
 
 -- A thread that has ended
 
 module _ (s : ScenarioParts) (old new : RunView) (t : ℕ) (h : Holds s old) (m : ThreadRests old new t) where
-  rests_here : Holds s (record { bus = old.bus; adapter = old.adapter; threads = old.threads; turns = with_turn old.turns (suc t) Nothing; notes = old.notes; capacity = old.capacity })
+  rests_here : Holds s (record { bus = old.bus; adapter = old.adapter; threads = old.threads; turns = with_turn old.turns (suc t); marks = old.marks; notes = old.notes; capacity = old.capacity })
   rests_here =
       let w' = actors_after s.lines s.programs h.trace in
-      let more : low_after (length old.turns) ≤ low_after (length (with_turn old.turns (suc t) Nothing)) = low_rises old.turns (suc t) Nothing in
+      let more : low_after (length old.turns) ≤ low_after (length (with_turn old.turns (suc t))) = low_rises old.turns (suc t) in
       record {
         trace = h.trace;
-        made = made_passes s old.turns old.notes h.trace h.made (suc t) (ap (λ (r : Thread). r.ended) (sym (h.stand.threads t m.thread m.found).rule) ∙ m.ended);
+        made = made_passes s old.turns old.marks old.notes h.trace h.made (suc t) (ap (λ (r : Thread). r.ended) (sym (h.stand.threads t m.thread m.found).rule) ∙ m.ended);
         stand = record {
-          adapter = adapter_stays s.lines w' w' (length old.turns) (length (with_turn old.turns (suc t) Nothing)) old.adapter more refl h.stand.adapter;
+          adapter = adapter_stays s.lines w' w' (length old.turns) (length (with_turn old.turns (suc t))) old.adapter more refl h.stand.adapter;
           thread_count = h.stand.thread_count;
-          threads = λ (k : ℕ) (thread : ThreadView) at_k. thread_stays s.lines w' w' (length old.turns) (length (with_turn old.turns (suc t) Nothing)) (suc k) thread more refl (h.stand.threads k thread at_k);
+          threads = λ (k : ℕ) (thread : ThreadView) at_k. thread_stays s.lines w' w' (length old.turns) (length (with_turn old.turns (suc t))) (suc k) thread more refl (h.stand.threads k thread at_k);
         };
         bus = record {
           start = h.bus.start;
           words = h.bus.words;
           operations = h.bus.operations;
-          room = omega (arith, one_more old.turns (suc t) Nothing, h.bus.room);
+          room = omega (arith, one_more old.turns (suc t), h.bus.room);
           turns = h.bus.turns;
         };
       }

@@ -1,5 +1,5 @@
 -- What holds of a run between two turns.
-use Rattle.std.specs.Prelude.{ℕ, suc, ◌≡◌, ◌+◌, ◌*◌, ◌≤◌, ◌^◌, List, [], length, map, Some, slice_get}
+use Rattle.std.specs.Prelude.{ℕ, suc, ◌≡◌, ◌+◌, ◌*◌, ◌≤◌, ◌^◌, Bool, List, length, map, Some, slice_get}
 use Rattle.std.specs.List.{fold}
 use Rattle.bus_core.specs.Follow.{Follows}
 use Rattle.bus_core.specs.Mark.{Marked, entries}
@@ -17,8 +17,6 @@ use Rattle.scenario_text.specs.declared.scenario.ScenarioParts.{ScenarioParts}
 use Rattle.scenario_text.specs.Limits.{turn_count}
 use Rattle.thread_actor.specs.Small.{IsBelow}
 use Rattle.thread_actor.specs.View.{ThreadView, thread_of}
-use Rattle.noted_history.specs.declared.log.TurnRecord.{TurnRecord}
-use Rattle.noted_history.specs.Marks.{marks_in}
 use Rattle.noted_history.specs.OfNotes.{noted_of}
 use Rattle.noted_history.specs.declared.log.Noted.{Noted}
 use Rattle.world_core.specs.Outcome.{AreTurns, marks_of}
@@ -44,15 +42,12 @@ pub record IsThreadOf (d : Lines) (w : Actors) (turns actor : ℕ) (thread : Thr
   pub rule : thread_of thread ≡ w.threads actor
   pub low : IsBelow (low_after turns) (thread_of thread)
 
-abbrev pub actor_of : TurnRecord → ℕ
-actor_of t = t.actor
-
--- the turns so far made these operations, and these are the notes of those that stand for an entry
-pub record MadeTurns (s : ScenarioParts) (turns : List TurnRecord) (notes_made : List Noted) (trace : List (Marked Mark)) : Type 0 where
+-- the turns so far made these operations, these of them stand for an entry, and these are the notes of those
+pub record MadeTurns (s : ScenarioParts) (turns : List ℕ) (marks_made : List Bool) (notes_made : List Noted) (trace : List (Marked Mark)) : Type 0 where
   pub keeps : Follows (MayAny s.lines) (after s.lines) (fresh_actors s.lines s.programs) trace
-  pub turned : AreTurns s.lines (fresh_actors s.lines s.programs) (map actor_of turns) trace
+  pub turned : AreTurns s.lines (fresh_actors s.lines s.programs) turns trace
   pub notes : notes_made ≡ map noted_of (told s.lines s.programs trace)
-  pub marks : marks_in turns ≡ marks_of s.lines (fresh_actors s.lines s.programs) trace
+  pub marks : marks_made ≡ marks_of s.lines (fresh_actors s.lines s.programs) trace
 
 -- the actors after these operations
 pub record Stand (s : ScenarioParts) (v : RunView) (trace : List (Marked Mark)) : Type 0 where
@@ -72,6 +67,6 @@ pub record HasBus (s : ScenarioParts) (v : RunView) (trace : List (Marked Mark))
 -- the run of a scenario so far
 pub record Holds (s : ScenarioParts) (v : RunView) : Type 0 where
   pub trace : List (Marked Mark)
-  pub made : MadeTurns s v.turns v.notes trace
+  pub made : MadeTurns s v.turns v.marks v.notes trace
   pub stand : Stand s v trace
   pub bus : HasBus s v trace

@@ -1,5 +1,5 @@
 -- The actors of a run over the words that they share, and what one turn makes of them.
-use Rattle.std.specs.Prelude.{ℕ, zero, suc, ◌≡◌, ◌+◌, ◌-◌, ◌<◌, ◌≤◌, ◌^◌, ◌++◌, ◌⊎◌, true, false, List, [], ◌∷◌, length, Option, None, Some, slice_get, slice_set}
+use Rattle.std.specs.Prelude.{ℕ, zero, suc, ◌≡◌, ◌-◌, ◌<◌, ◌≤◌, ◌^◌, ◌++◌, ◌⊎◌, true, false, Bool, List, [], ◌∷◌, length, Option, Some, slice_get, slice_set}
 use Rattle.bus_core.specs.declared.operation.BusEntry.{BusEntry}
 use Rattle.bus_core.specs.declared.turn.Note.{Note}
 use Rattle.bus_core.specs.Plain.{Plain}
@@ -11,17 +11,16 @@ use Rattle.thread_actor.specs.Small.{IsSmall}
 use Rattle.thread_actor.specs.Turn.{ThreadTurn}
 use Rattle.thread_actor.specs.View.{ThreadView}
 use Rattle.noted_history.specs.declared.log.Noted.{Noted}
-use Rattle.noted_history.specs.declared.log.TurnRecord.{TurnRecord}
-use Rattle.noted_history.specs.declared.log.TurnResult.TheVariants.{Nothing}
-use Rattle.world_core.specs.Log.{made_of, with_turn, with_note}
+use Rattle.world_core.specs.Log.{with_turn, with_mark, with_note}
 
 pub record RunView : Type 0 where
   pub bus : Plain
   pub adapter : ScanView
   -- thread 1 is the first
   pub threads : List ThreadView
-  -- what each turn made, the notes of those that stand for an entry, and for how many turns there is room
-  pub turns : List TurnRecord
+  -- the actor of each turn, which operations stand for an entry, the notes of those, and for how many turns there is room
+  pub turns : List ℕ
+  pub marks : List Bool
   pub notes : List Noted
   pub capacity : ℕ
 
@@ -69,7 +68,8 @@ pub record AdapterMoves (old new : RunView) : Type 0 where
   pub by : entry.actor ≡ 0
   pub turn : AdapterTurn old.adapter new.adapter entry note
   pub bus : new.bus ≡ with_operation old.bus 0 entry
-  pub turns : new.turns ≡ with_turn old.turns 0 (made_of note)
+  pub turns : new.turns ≡ with_turn old.turns 0
+  pub marks : new.marks ≡ with_mark old.marks note
   pub notes : new.notes ≡ with_note old.notes 0 note
   pub threads : new.threads ≡ old.threads
   pub capacity : new.capacity ≡ old.capacity
@@ -96,7 +96,8 @@ pub record ThreadMoves (old new : RunView) (t : ℕ) : Type 0 where
   pub by : entry.actor ≡ suc t
   pub turn : ThreadTurn before after entry note
   pub bus : new.bus ≡ with_operation old.bus (suc t) entry
-  pub turns : new.turns ≡ with_turn old.turns (suc t) (made_of note)
+  pub turns : new.turns ≡ with_turn old.turns (suc t)
+  pub marks : new.marks ≡ with_mark old.marks note
   pub notes : new.notes ≡ with_note old.notes (suc t) note
   pub threads : new.threads ≡ slice_set old.threads t after
   pub adapter : new.adapter ≡ old.adapter
@@ -107,7 +108,7 @@ pub record ThreadRests (old new : RunView) (t : ℕ) : Type 0 where
   pub thread : ThreadView
   pub found : slice_get old.threads t ≡ Some thread
   pub ended : thread.ended ≡ true
-  pub new_is : new ≡ record old { turns = with_turn old.turns (suc t) Nothing }
+  pub new_is : new ≡ record old { turns = with_turn old.turns (suc t) }
 
 abbrev pub Turns : RunView → RunView → ℕ → Type 0
 Turns old new zero = AdapterMoves old new

@@ -33,5 +33,6 @@ pub record IsFirst (s : ScenarioParts) (v : RunView) : Type 0 where
   pub adapter : device.IsFresh s.lines v.adapter
   pub threads : AreFresh s.lines s.programs v.threads
   pub turns : v.turns ≡ []
+  pub marks : v.marks ≡ []
   pub notes : v.notes ≡ []
   pub capacity : turn_count (length s.lines.threads) s.plan ≤ v.capacity

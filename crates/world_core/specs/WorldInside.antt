@@ -1,5 +1,5 @@
 -- How the fields of a world are seen, and what they keep.
-use Rattle.std.specs.Prelude.{◌≡◌, List, map}
+use Rattle.std.specs.Prelude.{◌≡◌, List}
 use Rattle.verbs_types.specs.declared.call.Call.{Call}
 use Rattle.verbs_rules.specs.Start.{start}
 use Rattle.verbs_rules.specs.State.{Verbs}
@@ -8,13 +8,13 @@ use Rattle.scenario_text.specs.declared.scenario.Plan.{Plan}
 use Rattle.scenario_text.specs.declared.scenario.ScenarioParts.{ScenarioParts}
 use Rattle.scenario_text.specs.Running.{CanRun}
 use Rattle.world_core.specs.declared.world.World.TheInside.{Inside}
-use Rattle.world_core.specs.Holding.{Holds, actor_of}
+use Rattle.world_core.specs.Holding.{Holds}
 use Rattle.world_core.specs.Run.{RunView}
 use Rattle.world_core.specs.RunInside.{run_view}
 use Rattle.world_core.specs.World.{WorldView}
 
 abbrev pub world_view : Inside → WorldView
-world_view w = record { parts = w.scenario.value; turns = map actor_of w.run.log.turns }
+world_view w = record { parts = w.scenario.value; turns = w.run.log.turns }
 
 -- a world of a scenario that can run
 pub record IsWorldOf (s : ScenarioParts) (programs : List (List Call)) (plan : Plan) (first : Verbs) (run : RunView) : Type 0 where

@@ -1,8 +1,6 @@
-//! Copies of what a scenario says and of what a bus kept.
-ghost use Rattle.std.specs.Prelude.{◌≡◌, IfOk, slice_index};
-ghost use Rattle.bus_core.specs.Trace.{IsConsistent};
+//! Copies of what a scenario says.
+ghost use Rattle.std.specs.Prelude.{◌≡◌, IfOk};
 
-use bus_core::{BusEntry, PlainBus};
 use scenario_text::Plan;
 use std::alloc::{AllocError, Global};
 use verbs_types::{Call, NoMemory, Receive, Request, Sequence};
@@ -107,16 +105,5 @@ pub(crate) fn copy_of_plan(alloc: Global, plan: &Plan) -> Result<Plan, NoMemory>
             Err(_) => Err(NoMemory),
         },
         Plan::Rounds(rounds) => Ok(Plan::Rounds(*rounds)),
-    }
-}
-
-/// All operations so far of a bus, each of which tells the word that it found.
-pub(crate) fn copy_of_trace(alloc: Global, bus: &PlainBus) -> Result<Vec<BusEntry>, NoMemory>
-    ensures trace { IfOk result (λ v. v.items ≡ bus.now.trace) }
-    ensures consistent { IsConsistent (slice_index bus.now.start) bus.now.trace }
-{
-    match Vec::from_slice(alloc, bus.trace()) {
-        Ok(trace) => Ok(trace),
-        Err(_) => Err(NoMemory),
     }
 }

@@ -1,19 +1,19 @@
 //! What a run keeps of its turns.
 ghost use Rattle.std.specs.Prelude.{◌≡◌, ◌<◌, ◌≤◌, [], length, vec_capacity, IfOk};
-ghost use Rattle.noted_history.specs.declared.log.TurnResult.TheVariants as made;
-ghost use Rattle.world_core.specs.Log.{with_note, with_turn, made_of};
+ghost use Rattle.world_core.specs.Log.{with_mark, with_note, with_turn};
 
 use bus_core::Note;
-use noted_history::{Noted, TurnRecord, TurnResult};
+use noted_history::Noted;
 use std::alloc::Global;
 use std::marker::Model;
 use verbs_types::NoMemory;
 
-/// What each turn made, and the notes of those that stand for an entry, with room for a number of turns. A turn takes
-/// 2 bytes, and memory for a note is touched only where there is one.
+/// The actor of each turn, which operations stand for an entry of the history, and the notes of those, with room for
+/// a number of turns. Memory is touched only for what is kept.
 #[derive(Drop)]
 pub(crate) struct Log {
-    turns: Vec<TurnRecord>,
+    turns: Vec<u8>,
+    marks: Vec<bool>,
     notes: Vec<Noted>,
     /// How many turns there is room for.
     most: usize,
@@ -34,10 +34,11 @@ impl Model for Log {
 impl Log {
     /// Before the first turn, with room for `most` turns.
     pub fn new(alloc: Global, most: usize) -> Result<Log, NoMemory>
-        ensures { IfOk result (λ log. log ≡ record { turns = []; notes = []; capacity = most }) }
+        ensures { IfOk result (λ log. log ≡ record { turns = []; marks = []; notes = []; capacity = most }) }
     {
         Ok(Log {
             turns: room_for(alloc, most)?,
+            marks: room_for(alloc, most)?,
             notes: room_for(alloc, most)?,
             most,
         })
@@ -46,41 +47,28 @@ impl Log {
     /// Keeps that a turn of this actor made no operation.
     pub fn pass(&mut self, actor: u8)
         requires { length self.old.turns < self.old.capacity }
-        ensures { self.new ≡ record self.old { turns = with_turn self.old.turns actor made.Nothing } }
+        ensures { self.new ≡ record self.old { turns = with_turn self.old.turns actor } }
     {
-        self.turns.push_reserved(TurnRecord {
-            actor,
-            made: TurnResult::Nothing,
-        });
+        self.turns.push_reserved(actor);
     }
 
     /// Keeps that a turn of this actor made an operation, with its note where it stands for an entry.
     pub fn keep(&mut self, actor: u8, note: Option<Note>)
         requires { length self.old.turns < self.old.capacity }
-        ensures { self.new ≡ record self.old { turns = with_turn self.old.turns actor (made_of note); notes = with_note self.old.notes actor note } }
+        ensures { self.new ≡ record self.old { turns = with_turn self.old.turns actor; marks = with_mark self.old.marks note; notes = with_note self.old.notes actor note } }
     {
-        match note {
-            None => {
-                self.turns.push_reserved(TurnRecord {
-                    actor,
-                    made: TurnResult::Operation,
-                });
-            }
-            Some(note) => {
-                self.turns.push_reserved(TurnRecord {
-                    actor,
-                    made: TurnResult::Entry,
-                });
-                self.notes.push_reserved(Noted { actor, note });
-            }
+        self.turns.push_reserved(actor);
+        self.marks.push_reserved(note.is_some());
+        if let Some(note) = note {
+            self.notes.push_reserved(Noted { actor, note });
         }
     }
 
-    /// What each turn made.
-    pub fn turns(&self) -> &[TurnRecord]
-        ensures { result.now ≡ self.now.turns }
+    /// Of each operation, whether it stands for an entry. It does not allocate.
+    pub fn into_marks(self) -> Vec<bool>
+        ensures { result.items ≡ self.marks }
     {
-        self.turns.as_slice()
+        self.marks
     }
 
     /// The notes, in order.

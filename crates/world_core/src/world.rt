@@ -5,14 +5,14 @@ ghost use Rattle.scenario_text.specs.Running.{items_of_plan};
 ghost use Rattle.world_core.specs.Outcome.{IsOutcome};
 ghost use Rattle.world_core.specs.World.{rounds_of_plan, turns_of_items};
 
-use crate::copies::{copy_of_plan, copy_of_programs, copy_of_trace};
+use crate::copies::{copy_of_plan, copy_of_programs};
 use crate::outcome::Outcome;
 use crate::run::Run;
 use crate::start::first_run;
 use crate::turns::times;
 use device_engine::laws::counts_grow;
 use marked_stores::laws::stores_are_told;
-use noted_history::{history_of, marks_of};
+use noted_history::history_of;
 use operation_bounds::laws::run_is_bounded;
 use ready_scenarios::laws::ready;
 use run_law::laws::woven;
@@ -183,12 +183,13 @@ impl World {
         run_is_bounded();
         stores_are_told();
         let first = self.first;
-        let trace = copy_of_trace(alloc, &self.run.bus)?;
-        let marks = marks_of(alloc, self.run.log.turns())?;
-        let history = history_of(alloc, first, self.programs.as_slice(), self.run.log.notes())?;
+        let run = self.run;
+        let trace = run.bus.into_trace();
+        let log = run.log;
+        let history = history_of(alloc, first, self.programs.as_slice(), log.notes())?;
         Ok(Outcome {
             trace,
-            marks,
+            marks: log.into_marks(),
             history: Sequence::from_vec(history),
         })
     }

@@ -1,5 +1,5 @@
 -- The scenario is ready, and all that it needs is new.
-use Rattle.std.proofs.Common.{◌≡◌, ◌≤◌, ◌^◌, ◌∙◌, sym, ap, subst, arith, ℕ, List, length, vec_capacity}
+use Rattle.std.proofs.Common.{◌≡◌, ◌≤◌, ◌^◌, ◌∙◌, sym, ap, subst, arith, ℕ, List, length}
 use Rattle.verbs_types.specs.declared.call.Call.{Call}
 use Rattle.verbs_types.specs.declared.declaration.Lines.{Lines}
 use Rattle.actor_map.specs.Sizes.{words_of}
@@ -37,6 +37,7 @@ returns c =
       threads = subst (λ (d : Lines). AreFresh d s.programs c.in_ok-threads_of.field-0.items) lines
           (subst (λ (ps : List (List Call)). AreFresh c.declared-declared.result.now ps c.in_ok-threads_of.field-0.items) c.programs-2.ensures.programs c.in_ok-threads_of.ensures);
       turns = ap (λ (log : LogView). log.turns) c.in_ok-new-2.ensures;
+      marks = ap (λ (log : LogView). log.marks) c.in_ok-new-2.ensures;
       notes = ap (λ (log : LogView). log.notes) c.in_ok-new-2.ensures;
       capacity = omega (arith, turns, ap (λ (log : LogView). log.capacity) c.in_ok-new-2.ensures);
     }

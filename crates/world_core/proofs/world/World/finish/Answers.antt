@@ -1,10 +1,7 @@
 -- The operations are a run, whose history is legal, and so the one that the notes tell.
-use Rattle.std.proofs.Common.{◌≡◌, ◌∙◌, sym, ap, subst, List}
-use Rattle.verbs_types.specs.declared.entry.Entry.{Entry}
+use Rattle.std.proofs.Common.{◌∙◌, sym, subst, List}
 use Rattle.actor_rules.specs.Run.{IsWoven}
 use Rattle.noted_history.specs.declared.log.Noted.{Noted}
-use Rattle.noted_history.specs.declared.log.TurnRecord.{TurnRecord}
-use Rattle.noted_history.specs.Marks.{marks_in}
 use Rattle.noted_history.specs.OfNotes.{HasNotes}
 use Rattle.verbs_model.specs.Tables.{state_of}
 use Rattle.world_core.specs.declared.outcome.Outcome.{Outcome}
@@ -21,7 +18,7 @@ history_of-requires c =
     let s = c.self.inside.scenario.value in
     let v = run_view c.self.inside.run in
     let h = c.self.invariant.holds in
-    let consistent = c.copy_of_trace.ensures.consistent in
+    let consistent = c.into_trace-trace.ensures.consistent in
     let legal = by_law s v h consistent IsWoven c.woven.ensures c.ready.ensures c.self.invariant.scenario in
     record {
       told = (
@@ -36,13 +33,13 @@ returns c =
     let s = c.self.inside.scenario.value in
     let v = run_view c.self.inside.run in
     let h = c.self.invariant.holds in
-    let consistent = c.copy_of_trace.ensures.consistent in
+    let consistent = c.into_trace-trace.ensures.consistent in
     let legal = by_law s v h consistent IsWoven c.woven.ensures c.ready.ensures c.self.invariant.scenario in
     let told_here : HasNotes (state_of c.self.inside.first) c.as_slice.result.now c.notes.result.now (tale s v h consistent) =
     subst (λ (notes : List Noted). HasNotes (state_of c.self.inside.first) c.as_slice.result.now notes (tale s v h consistent)) (sym c.notes.ensures)
     (told s v h consistent legal (state_of c.self.inside.first) c.as_slice.result.now c.self.invariant.first_is (c.as_slice.ensures.value ∙ c.self.invariant.programs_are)) in
-    let o : Outcome = record { trace = c.in_ok-trace.trace; marks = c.in_ok-marks.marks; history = c.from_vec.result } in
+    let o : Outcome = record { trace = c.into_trace-trace.result; marks = c.into_marks.result; history = c.from_vec.result } in
     subst (λ (w : WorldView). IsOutcome w.parts w.turns o) c.self.view_is
     (outcome_is s v h consistent legal o (by_law s v h consistent IsBoundedRun c.run_is_bounded.ensures c.ready.ensures c.self.invariant.scenario)
-    (by_law s v h consistent SayEntries c.stores_are_told.ensures c.ready.ensures c.self.invariant.scenario) c.in_ok-trace.ensures.trace (c.in_ok-marks.ensures ∙ ap (λ (turns : List TurnRecord). marks_in turns) c.turns.ensures)
+    (by_law s v h consistent SayEntries c.stores_are_told.ensures c.ready.ensures c.self.invariant.scenario) c.into_trace-trace.ensures.trace c.into_marks.ensures
     (c.from_vec.ensures ∙ c.in_ok-history.ensures.told (tale s v h consistent) told_here))

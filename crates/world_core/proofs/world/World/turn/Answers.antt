@@ -1,9 +1,6 @@
 -- The run has what a turn asks, and holds after it.
-use Rattle.std.proofs.Common.{◌≡◌, ◌<◌, ◌≤◌, ◌∙◌, sym, ap, subst, arith, ℕ, List, [], ◌∷◌, ◌++◌, length, map}
-use Rattle.std.proofs.lemmas.List.{length-map}
-use Rattle.noted_history.specs.declared.log.TurnRecord.{TurnRecord}
+use Rattle.std.proofs.Common.{◌<◌, ◌≤◌, ◌∙◌, sym, ap, subst, ℕ, List, [], ◌∷◌, ◌++◌, length}
 use Rattle.scenario_text.specs.Limits.{turn_count}
-use Rattle.world_core.specs.Holding.{actor_of}
 use Rattle.world_core.specs.RunInside.{run_view}
 use Rattle.world_core.specs.World.{WorldView}
 use Rattle.world_core.proofs.Ready.{can_turn}
@@ -12,11 +9,10 @@ use Rattle.world_core.proofs.world.World.turn.Goals as goal
 
 pub turn-requires : goal.turn-requires
 turn-requires c =
-    let made : length (map actor_of c.self.inside.run.log.turns) < turn_count (length c.self.inside.scenario.value.lines.threads) c.self.inside.scenario.value.plan =
+    let made : length c.self.inside.run.log.turns < turn_count (length c.self.inside.scenario.value.lines.threads) c.self.inside.scenario.value.plan =
     subst (λ (v : WorldView). length v.turns < turn_count (length v.parts.lines.threads) v.parts.plan) (sym c.self.view_is) c.requires.left in
-    let long : length (map actor_of c.self.inside.run.log.turns) ≡ length c.self.inside.run.log.turns = length-map c.self.inside.run.log.turns actor_of in
     let among = subst (λ (v : WorldView). c.args.actor ≤ length v.parts.programs) (sym c.self.view_is) c.requires.actor in
-    can_turn c.self.inside.scenario.value (run_view c.self.inside.run) c.self.invariant.scenario c.self.invariant.holds (omega (arith, made, long)) c.args.actor among
+    can_turn c.self.inside.scenario.value (run_view c.self.inside.run) c.self.invariant.scenario c.self.invariant.holds made c.args.actor among
 
 pub invariant_of-self : goal.invariant_of-self
 invariant_of-self c = record {
