@@ -81,10 +81,7 @@ module _ (test : ℕ → Bool) where
   is_there least zero n low high good = absurd (omega (arith, low, high))
   is_there least (suc count) n low high good = by (λ apart. is_there (least + 1) count n (omega (arith, low, apart)) (omega (arith, high)) good) (least == n) refl (test least) refl
     where
-      abbrev Rest : Type 0
-      Rest = (k : ℕ) × (slice_get (filter test (range_with_len (least + 1) count)) k ≡ Some n)
-
-      by : (least ≢ n → Rest) → (same : Bool) → (least == n) ≡ same → (b : Bool) → test least ≡ b → (k : ℕ) × (slice_get (cond b (least ∷ filter test (range_with_len (least + 1) count)) (filter test (range_with_len (least + 1) count))) k ≡ Some n)
+      by : (least ≢ n → (k : ℕ) × (slice_get (filter test (range_with_len (least + 1) count)) k ≡ Some n)) → (same : Bool) → (least == n) ≡ same → (b : Bool) → test least ≡ b → (k : ℕ) × (slice_get (cond b (least ∷ filter test (range_with_len (least + 1) count)) (filter test (range_with_len (least + 1) count))) k ≡ Some n)
       by rest true e true t = (0, ap Some (eqb-true least n e))
       by rest true e false t = absurd (false≢true (sym t ∙ (ap test (eqb-true least n e) ∙ good)))
       by rest false e true t = let more = rest (eqb-false least n e) in (suc more.0, more.1)
