@@ -5,3 +5,5 @@ pub mod Next
 pub mod Comes
 pub mod Fresh
 pub mod Refused
+pub mod Held
+pub mod Life

@@ -9,3 +9,4 @@ pub mod Answers
 pub mod Users
 pub mod Inside
 pub mod Laws
+pub mod Life
