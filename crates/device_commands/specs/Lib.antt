@@ -1,0 +1,12 @@
+pub mod Refusal
+pub mod Shapes
+pub mod Objects
+pub mod Next
+pub mod Tables
+pub mod Rules
+pub mod Effect
+pub mod Answers
+pub mod Users
+pub mod Inside
+pub mod Laws
+pub mod Life
