@@ -52,6 +52,8 @@ fn objects_are_made_as_declared(rt: HostRuntime) -> Result<(), Fail> {
     expect(&rt, &mut tables, &Command::CreateEq(EQ), (0, 0));
     expect(&rt, &mut tables, &Command::CreateEq(EQ), (0x03, 0));
     expect(&rt, &mut tables, &Command::CreateCq(early), (0x03, 0));
+    let shared = CqContext { uar_page: 0, ..CQ };
+    expect(&rt, &mut tables, &Command::CreateCq(shared), (0x03, 0));
     Ok(())
 }
 

@@ -8,7 +8,7 @@ use Rattle.device_commands.specs.Users.{EqsCounted, PairsCounted}
 
 abbrev pub objects_view : objects.Inside → Objects
 objects_view a = record {
-  declared = record { pds = a.declared.pds; eqs = a.declared.eqs.items; cqs = a.declared.cqs.items; qps = a.declared.qps.items };
+  declared = record { pds = a.declared.pds; eqs = a.declared.eqs.items; cqs = a.declared.cqs.items; qps = a.declared.qps.items; owners = a.declared.owners.items };
   pds = a.pds.items;
   uars = a.uars.items;
   eqs = a.eqs.items;

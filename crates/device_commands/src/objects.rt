@@ -5,12 +5,12 @@ ghost use Rattle.device_commands.specs.Shapes.{declared_in};
 ghost use Rattle.device_commands.specs.Objects as objects;
 ghost use Rattle.device_commands.specs.Next as next;
 
-use crate::shapes::{CqShape, EqShape, QpShape, Shapes, is_cq_of, is_eq_of, is_qp_of};
+use crate::shapes::{CqShape, EqShape, QpShape, Shapes, is_cq_of, is_eq_of, is_qp_of, is_same};
 use cmd_bodies::{CqContext, EqBlock, QpBlock};
 use qp_state::QpState;
 use std::alloc::{AllocError, Global};
 use std::marker::Model;
-use verbs_types::{FIRST_PD, FIRST_QP, Lines};
+use verbs_types::{FIRST_PD, FIRST_QP, Lines, Object};
 
 mod changes;
 
@@ -134,11 +134,23 @@ impl ObjectTables {
         self.cq_users[cq as usize] != 0
     }
 
+    /// Whether the doorbell page is the one for this object.
+    fn is_page_of(&self, page: u32, object: Object) -> bool
+        ensures { result ≡ next.is_page_of self.now page object }
+    {
+        match self.declared.owners.get(page as usize) {
+            Some(owner) => is_same(*owner, object),
+            None => false,
+        }
+    }
+
     pub(crate) fn next_eq(&self, asked: &EqBlock) -> Option<EqShape>
         ensures { result ≡ next.next_eq self.now asked.now }
     {
         let shape = self.declared.eqs.get(self.eqs.len()).copied()?;
-        if is_eq_of(asked, &shape) {
+        if is_eq_of(asked, &shape)
+            && self.is_page_of(asked.uar, Object::Eq(self.eqs.len() as u32))
+        {
             Some(shape)
         } else {
             None
@@ -149,7 +161,9 @@ impl ObjectTables {
         ensures { result ≡ next.next_cq self.now asked.now }
     {
         let shape = self.declared.cqs.get(self.cqs.len()).copied()?;
-        if is_cq_of(asked, &shape) {
+        if is_cq_of(asked, &shape)
+            && self.is_page_of(asked.uar_page, Object::Cq(self.cqs.len() as u32))
+        {
             Some(shape)
         } else {
             None
@@ -160,7 +174,9 @@ impl ObjectTables {
         ensures { result ≡ next.next_qp self.now asked.now }
     {
         let shape = self.declared.qps.get(self.qps.len()).copied()?;
-        if is_qp_of(asked, &shape) {
+        if is_qp_of(asked, &shape)
+            && self.is_page_of(asked.uar, Object::Qp(FIRST_QP + self.qps.len() as u32))
+        {
             Some(shape)
         } else {
             None

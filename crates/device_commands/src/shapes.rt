@@ -2,11 +2,13 @@
 ghost use Rattle.std.specs.Prelude.{◌≡◌, ◌+◌, ◌≤◌, IfOk, IsTrue, length, map, vec_len};
 ghost use Rattle.verbs_types.specs.Lines.{is_declared};
 ghost use Rattle.device_commands.specs.Next as next;
-ghost use Rattle.device_commands.specs.Shapes.{eq_shape, cq_shape, qp_shape};
+ghost use Rattle.std.specs.List.{filter};
+ghost use Rattle.device_commands.specs.Shapes as shape;
+ghost use Rattle.device_commands.specs.Shapes.{has_page, eq_shape, cq_shape, qp_shape};
 
 use cmd_bodies::{CqContext, EqBlock, QpBlock};
 use std::alloc::{AllocError, Global};
-use verbs_types::Lines;
+use verbs_types::{Lines, Object};
 
 /// An event queue as it is declared.
 #[derive(Clone, Copy, Debug, PartialEq, Eq)]
@@ -48,6 +50,8 @@ pub(crate) struct Shapes {
     pub eqs: Vec<EqShape>,
     pub cqs: Vec<CqShape>,
     pub qps: Vec<QpShape>,
+    /// The object that each doorbell page is for.
+    pub owners: Vec<Object>,
 }
 
 impl Shapes {
@@ -58,6 +62,7 @@ impl Shapes {
         ensures eqs { IfOk result (λ s. s.eqs.items ≡ map eq_shape lines.now.eqs) }
         ensures cqs { IfOk result (λ s. s.cqs.items ≡ map cq_shape lines.now.cqs) }
         ensures qps { IfOk result (λ s. s.qps.items ≡ map qp_shape lines.now.qps) }
+        ensures owners { IfOk result (λ s. s.owners.items ≡ filter has_page lines.now.order) }
     {
         let mut eqs = Vec::with_capacity(alloc, lines.eqs.len())?;
         for line in lines.eqs.as_slice() {
@@ -81,11 +86,18 @@ impl Shapes {
                 segments: line.segments,
             })?;
         }
+        let mut owners = Vec::with_capacity(alloc, lines.order.len())?;
+        for object in lines.order.as_slice() {
+            if has_page(*object) {
+                owners.push(*object)?;
+            }
+        }
         Ok(Shapes {
             pds: lines.pds.len() as u32,
             eqs,
             cqs,
             qps,
+            owners,
         })
     }
 
@@ -95,6 +107,28 @@ impl Shapes {
         ensures { result ≡ vec_len self.now.eqs + vec_len self.now.cqs + vec_len self.now.qps }
     {
         self.eqs.len() + self.cqs.len() + self.qps.len()
+    }
+}
+
+/// Whether an object has a doorbell page.
+fn has_page(object: Object) -> bool
+    ensures { result ≡ shape.has_page object }
+{
+    match object {
+        Object::Eq(_) | Object::Cq(_) | Object::Qp(_) => true,
+        Object::Pd(_) => false,
+    }
+}
+
+/// Whether both are the same object with a doorbell page.
+pub(crate) fn is_same(one: Object, other: Object) -> bool
+    ensures { result ≡ next.is_same one other }
+{
+    match (one, other) {
+        (Object::Eq(n), Object::Eq(m)) => n == m,
+        (Object::Cq(n), Object::Cq(m)) => n == m,
+        (Object::Qp(n), Object::Qp(m)) => n == m,
+        _ => false,
     }
 }
 
